@@ -1,0 +1,14 @@
+pub mod Choices
+pub mod Sums
+pub mod Boxes
+pub mod Areas
+pub mod Tables
+pub mod Shares
+pub mod Slopes
+pub mod Planes
+pub mod Lines
+pub mod Outlines
+pub mod Binomials
+pub mod Kernel
+pub mod Drawings
+pub mod Examples

@@ -1,0 +1,80 @@
+-- `mark::piece_ends` meets its contract: every difference is of a number that the edge and the rise leave room for.
+use mathlib.Core.Path.{refl}
+use borrow.Author.Needs.{needs}
+use Rattle.kernels.specs.Drawing.{outlineOf}
+use Rattle.kernels.proofs.mark.piece_ends.Statement.{statement}
+use Rattle.kernels.proofs.mark.piece_ends.Tie as tie
+
+mul-height : tie.Need-mul-height
+mul-height c = search needs
+
+add-top : tie.Need-add-top
+add-top c = search needs
+
+sub-top : tie.Need-sub-top
+sub-top c = search needs
+
+add-bottom : tie.Need-add-bottom
+add-bottom c = search needs
+
+add-bottom-2 : tie.Need-add-bottom-2
+add-bottom-2 c = search needs
+
+add-bottom-3 : tie.Need-add-bottom-3
+add-bottom-3 c = search needs
+
+add-turn : tie.Need-add-turn
+add-turn c = search needs
+
+add-back : tie.Need-add-back
+add-back c = search needs
+
+sub-t11 : tie.Need-sub-t11
+sub-t11 c = search needs
+
+add-t12 : tie.Need-add-t12
+add-t12 c = search needs
+
+add-t13 : tie.Need-add-t13
+add-t13 c = search needs
+
+add-t14 : tie.Need-add-t14
+add-t14 c = search needs
+
+sub-t15 : tie.Need-sub-t15
+sub-t15 c = search needs
+
+add-t16 : tie.Need-add-t16
+add-t16 c = search needs
+
+add-t18 : tie.Need-add-t18
+add-t18 c = search needs
+
+sub-t19 : tie.Need-sub-t19
+sub-t19 c = search needs
+
+returns : tie.Need-returns
+unfolding outlineOf
+returns c = refl
+
+pub piece-ends-spec : {M : Type 1} → statement M
+piece-ends-spec =
+    tie.close
+    (tie.spec
+    mul-height
+    add-top
+    sub-top
+    add-bottom
+    add-bottom-2
+    add-bottom-3
+    add-turn
+    add-back
+    sub-t11
+    add-t12
+    add-t13
+    add-t14
+    sub-t15
+    add-t16
+    add-t18
+    sub-t19
+    returns)

@@ -1,0 +1,16 @@
+-- `share::shares` meets its contract: antt computes the test of the whole table, which is the table's rule at each entry.
+use mathlib.Core.Path.{refl}
+use Rattle.kernels.specs.Choice.{within}
+use Rattle.kernels.specs.Sum.{sum}
+use Rattle.kernels.proofs.Areas.{countedArea}
+use Rattle.kernels.proofs.Tables.{valuesFrom}
+use Rattle.kernels.proofs.Shares.{quickShare, quickShareAt, table-tested}
+use Rattle.kernels.proofs.share.shares.Statement.{statement}
+use Rattle.kernels.proofs.share.shares.Tie as tie
+
+returns : tie.Need-returns
+unfolding valuesFrom quickShareAt quickShare countedArea within sum
+returns c = table-tested _ refl refl
+
+pub shares-spec : {M : Type 1} → statement M
+shares-spec = tie.close (tie.spec returns)

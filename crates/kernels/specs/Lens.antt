@@ -1,0 +1,36 @@
+-- The radius from depth.
+use mathlib.Core.Bool.{Bool, true, false}
+use Prim.Native.Nat.{ℕ, zero, suc, _+_, _*_, _-_, min}
+use lib.Dec.{leb, ltb}
+use Rattle.kernels.specs.Choice.{pick}
+use Rattle.kernels.specs.Sum.{dist}
+use Rattle.kernels.specs.Rounding.{nearest}
+pub use Rattle.kernels.specs.declared.lens.Lens.{Lens}
+pub use Rattle.kernels.specs.declared.lens.Radius.{Radius}
+pub use Rattle.kernels.specs.declared.lens.Radius.the-variants.{Pixels, NoLens, NoDepth}
+
+-- "opening D and focal length f (1 to 4,000), focus S (above f, at most 10,000,000), .. pitch p 1 to 1,000"
+unfoldable pub lawfulLens : Lens → Bool
+lawfulLens l =
+    pick (ltb (l .opening) 1) false
+    (pick (ltb 4000 (l .opening)) false
+    (pick (ltb (l .focal) 1) false
+    (pick (ltb 4000 (l .focal)) false
+    (pick (leb (l .focus) (l .focal)) false
+    (pick (ltb 10000000 (l .focus)) false
+    (pick (ltb (l .pitch) 1) false
+    (pick (ltb 1000 (l .pitch)) false
+    true)))))))
+
+-- "r is 500 × D × f × abs(Z − S) / (p × Z × (S − f)) to the nearest, a half upwards"; "Depth 0 is infinity: 500 × D × f /
+-- (p × (S − f))."
+unfoldable pub blur : Lens → ℕ → ℕ
+blur l zero = nearest (500 * l .opening * l .focal) (l .pitch * (l .focus - l .focal))
+blur l (suc m) =
+    nearest
+    (500 * l .opening * l .focal * dist (suc m) (l .focus))
+    (l .pitch * suc m * (l .focus - l .focal))
+
+-- "then at most the shape's top under R", for a "depth Z (0 to 10,000,000)"
+unfoldable pub radiusFrom : Lens → ℕ → ℕ → Radius
+radiusFrom l top z = pick (lawfulLens l) (pick (leb z 10000000) (Pixels (min top (blur l z))) NoDepth) NoLens

@@ -1,0 +1,114 @@
+-- The marks of a kernel.
+use mathlib.Core.List.{List, [], _∷_, _++_}
+use Prim.Native.Nat.{ℕ, zero, suc, _+_, _*_, _-_, _^_}
+use Rattle.kernels.specs.Choice.{same}
+use Rattle.kernels.specs.Sum.{Planes}
+use Rattle.kernels.specs.Shape.{Shape, Box, Tent, Triple, Diamond, Hexagon, Octagon}
+use Rattle.kernels.specs.Tap.{half, share}
+
+-- a mark: in one of a picture's seven planes, at a column and a row, with a signed coefficient
+pub record Mark : Type 0 where
+  pub plane : ℕ
+  pub column : ℕ
+  pub row : ℕ
+  pub coefficient : ℕ
+
+abbrev pub mark : ℕ → ℕ → ℕ → ℕ → Mark
+mark p x y c = record { plane = p; column = x; row = y; coefficient = c }
+
+-- what wraps to -w: w and minus w add up to 2^64 times w
+unfoldable pub minus : ℕ → ℕ
+minus w = (2 ^ 64 - 1) * w
+
+-- BOXES
+-- (−1)^i
+unfoldable pub sign : ℕ → ℕ
+sign zero = 1
+sign (suc zero) = minus 1
+sign (suc (suc i)) = sign i
+
+-- n over i
+unfoldable pub choose : ℕ → ℕ → ℕ
+choose n zero = 1
+choose zero (suc i) = 0
+choose (suc n) (suc i) = choose n i + choose n (suc i)
+
+-- the marks f 0, .., f (n - 1), one after the other
+unfoldable pub marksTo : (ℕ → List Mark) → ℕ → List Mark
+marksTo f zero = []
+marksTo f (suc n) = marksTo f n ++ f n
+
+-- n boxes of l cells in plane p, the first mark at (x, y): along each axis marks i l further on, "i from 0 to n, with factor
+-- (−1)^i times n over i", and their product over both axes
+unfoldable pub boxGrid : ℕ → ℕ → ℕ → ℕ → ℕ → List Mark
+boxGrid p n l x y =
+    marksTo
+    (λ i. marksTo (λ j. mark p (x + i * l) (y + j * l) (sign (i + j) * (choose n i * choose n j)) ∷ []) (suc n))
+    (suc n)
+
+-- "Boxes: along each axis marks at −n r + i(2r + 1)"
+unfoldable pub boxMarks : ℕ → ℕ → ℕ → ℕ → ℕ → List Mark
+boxMarks p n r X Y = boxGrid p n (2 * r + 1) (X - n * r) (Y - n * r)
+
+-- LINES
+-- the columns of a piece, and its slope: d rows down less u rows up for each column
+pub record Run : Type 0 where
+  pub downs : ℕ
+  pub ups : ℕ
+  pub columns : ℕ
+
+abbrev pub run : ℕ → ℕ → ℕ → Run
+run d u n = record { downs = d; ups = u; columns = n }
+
+-- a line from (x, y) on, piece by piece: "A piece has a mark at its start and the opposite one a step past its last column, in
+-- the plane of its slope. Pieces of no columns still make both." The next piece starts where that step led.
+unfoldable pub line : ℕ → ℕ → ℕ → ℕ → List Run → List Mark
+line p q x y [] = []
+line p q x y (s ∷ rest) =
+    mark (2 + s .downs - s .ups) x y p
+    ∷ mark (2 + s .downs - s .ups) (x + s .columns) (y + s .downs * s .columns - s .ups * s .columns) q
+    ∷ line p q (x + s .columns) (y + s .downs * s .columns - s .ups * s .columns) rest
+
+-- the same pieces turned upside down
+unfoldable pub flipped : List Run → List Run
+flipped [] = []
+flipped (s ∷ rest) = run (s .ups) (s .downs) (s .columns) ∷ flipped rest
+
+-- "in each column the taps run from −h to h. The top line −h counts plus, the line h + 1 minus": h is the first column's
+unfoldable pub lines : ℕ → ℕ → List Run → ℕ → ℕ → List Mark
+lines r h top X Y = line 1 (minus 1) (X - r) (Y - h) top ++ line (minus 1) 1 (X - r) (Y + h + 1) (flipped top)
+
+-- "Each line is three pieces of constant slope (two for the diamond); a column that two pieces fit goes to the later one, so
+-- the last takes the middle or the flat's right end."
+unfoldable pub diamondMarks : ℕ → ℕ → ℕ → List Mark
+diamondMarks r = lines r 0 (run 0 1 r ∷ run 1 0 (r + 1) ∷ [])
+
+unfoldable pub hexagonMarks : ℕ → ℕ → ℕ → ℕ → List Mark
+hexagonMarks r t = lines r 0 (run 0 2 t ∷ run 0 0 (2 * (r - t)) ∷ run 2 0 (t + 1) ∷ [])
+
+unfoldable pub octagonMarks : ℕ → ℕ → ℕ → ℕ → List Mark
+octagonMarks r t = lines r t (run 0 1 (r - t) ∷ run 0 0 (2 * t) ∷ run 1 0 (r - t + 1) ∷ [])
+
+-- KERNELS
+-- the marks of the taps of a kernel around (X, Y): boxes in "slope 0, second or third"
+unfoldable pub tapMarks : Shape → ℕ → ℕ → ℕ → List Mark
+tapMarks Box r X Y = boxMarks 2 1 r X Y
+tapMarks Tent r X Y = boxMarks 5 2 r X Y
+tapMarks Triple r X Y = boxMarks 6 3 r X Y
+tapMarks Diamond r X Y = diamondMarks r X Y
+tapMarks Hexagon r X Y = hexagonMarks r (half r) X Y
+tapMarks Octagon r X Y = octagonMarks r (half r) X Y
+
+-- each coefficient c times over
+unfoldable pub scaled : ℕ → List Mark → List Mark
+scaled c [] = []
+scaled c (m ∷ ms) = mark (m .plane) (m .column) (m .row) (c * m .coefficient) ∷ scaled c ms
+
+-- the marks of a kernel, for opacity 1: "A mark is worth its sign or factor times a × s"
+unfoldable pub marks : Shape → ℕ → ℕ → ℕ → List Mark
+marks s r X Y = scaled (share s r) (tapMarks s r X Y)
+
+-- the planes that hold a list of marks: at each cell, all that is laid there
+unfoldable pub planesOf : List Mark → Planes
+planesOf [] p x y = 0
+planesOf (m ∷ ms) p x y = same p (m .plane) (same x (m .column) (same y (m .row) (m .coefficient))) + planesOf ms p x y

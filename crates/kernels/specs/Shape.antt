@@ -1,0 +1,59 @@
+-- The six shapes, and their rows in the paper's table of kernels.
+use Prim.Native.Nat.{ℕ, _*_, _/_, min}
+use mathlib.Core.List.{List, [], _∷_}
+use lib.ListN.{getD}
+pub use Rattle.kernels.specs.declared.shape.Shape.{Shape}
+pub use Rattle.kernels.specs.declared.shape.Shape.the-variants.{Box, Tent, Triple, Diamond, Hexagon, Octagon}
+pub use Rattle.kernels.specs.declared.shape.ShapeRead.{ShapeRead}
+pub use Rattle.kernels.specs.declared.shape.ShapeRead.the-variants.{Known, Unknown}
+
+-- "shape 0 to 5"
+abbrev pub numberOf : Shape → ℕ
+numberOf Box = 0
+numberOf Tent = 1
+numberOf Triple = 2
+numberOf Diamond = 3
+numberOf Hexagon = 4
+numberOf Octagon = 5
+
+-- the shape of a number, none above 5
+abbrev pub shapes : List ShapeRead
+shapes = Known Box ∷ Known Tent ∷ Known Triple ∷ Known Diamond ∷ Known Hexagon ∷ Known Octagon ∷ []
+
+abbrev pub shapeOf : ℕ → ShapeRead
+shapeOf n = getD shapes n Unknown
+
+-- "With n boxes (1, 2, 3) ..; n is 1 for shapes 3 to 5."
+abbrev pub boxesOf : Shape → ℕ
+boxesOf Box = 1
+boxesOf Tent = 2
+boxesOf Triple = 3
+boxesOf Diamond = 1
+boxesOf Hexagon = 1
+boxesOf Octagon = 1
+
+-- "top r"
+abbrev pub topOf : Shape → ℕ
+topOf Box = 64
+topOf Tent = 8
+topOf Triple = 3
+topOf Diamond = 64
+topOf Hexagon = 64
+topOf Octagon = 64
+
+-- "marks"
+abbrev pub countOf : Shape → ℕ
+countOf Box = 4
+countOf Tent = 9
+countOf Triple = 16
+countOf Diamond = 8
+countOf Hexagon = 12
+countOf Octagon = 12
+
+-- "the kernel reaches n × r"
+abbrev pub reachOf : Shape → ℕ → ℕ
+reachOf s r = boxesOf s * r
+
+-- "so r is also at most R / n rounded down": the shape's top under R
+abbrev pub topUnder : Shape → ℕ → ℕ
+topUnder s R = min (topOf s) (R / boxesOf s)

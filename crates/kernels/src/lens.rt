@@ -1,0 +1,16 @@
+// The radius from depth, by the thin lens formula in whole numbers.
+
+// Opening, focal length and focus in 0.1 mm, pitch in 0.1 µm.
+pub struct Lens {
+    pub opening: u32,
+    pub focal: u32,
+    pub focus: u32,
+    pub pitch: u32,
+}
+
+// A radius, or why there is none.
+pub enum Radius {
+    Pixels(u8),
+    NoLens,
+    NoDepth,
+}

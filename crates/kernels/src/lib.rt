@@ -1,0 +1,10 @@
+// The kernels of the lens: shapes, shares, marks, the radius from depth, and rounding. Knows nothing of plates.
+pub mod lens;
+pub mod mark;
+pub mod shape;
+pub mod share;
+
+pub use lens::Lens;
+pub use lens::Radius;
+pub use shape::Shape;
+pub use shape::ShapeRead;
