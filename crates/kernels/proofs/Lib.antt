@@ -1,5 +1,7 @@
+pub mod Numbers
 pub mod Choices
 pub mod Sums
+pub mod Shapes
 pub mod Boxes
 pub mod Areas
 pub mod Tables
@@ -11,4 +13,6 @@ pub mod Outlines
 pub mod Binomials
 pub mod Kernel
 pub mod Drawings
+pub mod Nearest
+pub mod Lenses
 pub mod Examples

@@ -6,11 +6,12 @@ use Prim.Native.Nat.{ℕ, _+_, _*_, _/_, _%_, _≤_, _<_}
 use native.Mathlib.Omega.{arith}
 use lib.ListN.{length, getD}
 use Rattle.kernels.specs.Choice.{within}
-use Rattle.kernels.specs.Shape.{Shape, Box, Tent, Triple, Diamond, Hexagon, Octagon, ShapeRead, Known, Unknown, numberOf, shapeOf, topOf}
+use Rattle.kernels.specs.Shape.{Shape, ShapeRead, Known, Unknown, numberOf, shapeOf, topOf}
 use Rattle.kernels.specs.Tap.{share, shareUpTo, shareOf, shareAt}
 use Rattle.kernels.specs.Share.{listFrom, shareTable, tableShare}
 use Rattle.kernels.proofs.Choices.{by-lt, within-yes, within-no}
 use Rattle.kernels.proofs.Areas.{countedArea, area-counted}
+use Rattle.kernels.proofs.Shapes.{number-le, number-back, top-small}
 use Rattle.kernels.proofs.Tables.{valuesFrom, tested, listFrom-ext, getD-listFrom}
 
 -- THE RULE
@@ -40,31 +41,6 @@ table-tested xs n t =
     tested quickShareAt 0 xs t ∙ ap (listFrom quickShareAt 0) n ∙ listFrom-ext quickShareAt shareAt quick-share-at 0 390
 
 -- ITS ENTRIES
--- shapes are numbered 0 to 5, no top is above 64, and a shape has its number
-pub number-le : (s : Shape) → numberOf s ≤ 5
-number-le Box = omega arith
-number-le Tent = omega arith
-number-le Triple = omega arith
-number-le Diamond = omega arith
-number-le Hexagon = omega arith
-number-le Octagon = omega arith
-
-pub top-le : (s : Shape) → topOf s ≤ 64
-top-le Box = omega arith
-top-le Tent = omega arith
-top-le Triple = omega arith
-top-le Diamond = omega arith
-top-le Hexagon = omega arith
-top-le Octagon = omega arith
-
-pub number-back : (s : Shape) → shapeOf (numberOf s) ≡ Known s
-number-back Box = refl
-number-back Tent = refl
-number-back Triple = refl
-number-back Diamond = refl
-number-back Hexagon = refl
-number-back Octagon = refl
-
 -- the entry at 65 times the number, plus the radius
 share-at : (s : Shape) (r : ℕ) → r ≤ 64 → shareAt (65 * numberOf s + r) ≡ shareUpTo s r
 unfolding shareAt
@@ -76,7 +52,7 @@ share-at s r h =
 -- no shape has a share above 64
 above : (s : Shape) (r : ℕ) → 64 < r → shareUpTo s r ≡ 0
 unfolding shareUpTo
-above s r g = within-no r (topOf s) (share s r) (omega (arith, top-le s))
+above s r g = within-no r (topOf s) (share s r) (omega (arith, top-small s))
 
 -- what the table holds for a shape and a radius is the share
 pub table-share : (s : Shape) (r : ℕ) → tableShare shareTable s r ≡ shareUpTo s r

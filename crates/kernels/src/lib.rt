@@ -1,10 +1,15 @@
 // The kernels of the lens: shapes, shares, marks, the radius from depth, and rounding. Knows nothing of plates.
 pub mod lens;
 pub mod mark;
+pub mod rounding;
 pub mod shape;
 pub mod share;
 
 pub use lens::Lens;
 pub use lens::Radius;
+pub use mark::Boxes;
+pub use mark::Drawing;
+pub use mark::Line;
+pub use mark::Outline;
 pub use shape::Shape;
 pub use shape::ShapeRead;

@@ -1,6 +1,6 @@
 // The six shapes of a lens opening.
 ghost use mathlib.Core.Path.{_≡_};
-ghost use Rattle.kernels.specs.Shape.{numberOf};
+ghost use Rattle.kernels.specs.Shape.{numberOf, shapeOf, boxesOf, topOf, countOf, reachOf, topUnder};
 
 pub enum Shape {
     Box,
@@ -16,6 +16,7 @@ pub enum ShapeRead {
     Unknown,
 }
 
+// The number that stands for a shape outside of this engine.
 pub fn number(s: Shape) -> u8
     ensures { λ r. ⌜ r ≡ numberOf s ⌝ }
 {
@@ -27,4 +28,80 @@ pub fn number(s: Shape) -> u8
         Shape::Hexagon => 4,
         Shape::Octagon => 5,
     }
+}
+
+// The shape that a number names; a number above 5 names none.
+pub fn shape_of(n: u8) -> ShapeRead
+    ensures { λ r. ⌜ r ≡ shapeOf n ⌝ }
+{
+    match n {
+        0 => ShapeRead::Known(Shape::Box),
+        1 => ShapeRead::Known(Shape::Tent),
+        2 => ShapeRead::Known(Shape::Triple),
+        3 => ShapeRead::Known(Shape::Diamond),
+        4 => ShapeRead::Known(Shape::Hexagon),
+        5 => ShapeRead::Known(Shape::Octagon),
+        _ => ShapeRead::Unknown,
+    }
+}
+
+// How many boxes are convolved into a kernel; 1 for a shape that is no box.
+pub fn boxes(s: Shape) -> usize
+    ensures { λ r. ⌜ r ≡ boxesOf s ⌝ }
+{
+    match s {
+        Shape::Box => 1,
+        Shape::Tent => 2,
+        Shape::Triple => 3,
+        Shape::Diamond => 1,
+        Shape::Hexagon => 1,
+        Shape::Octagon => 1,
+    }
+}
+
+// The largest radius of a shape, whatever the plate.
+pub fn top(s: Shape) -> usize
+    ensures { λ r. ⌜ r ≡ topOf s ⌝ }
+{
+    match s {
+        Shape::Box => 64,
+        Shape::Tent => 8,
+        Shape::Triple => 3,
+        Shape::Diamond => 64,
+        Shape::Hexagon => 64,
+        Shape::Octagon => 64,
+    }
+}
+
+// How many marks a kernel has.
+pub fn mark_count(s: Shape) -> u32
+    ensures { λ r. ⌜ r ≡ countOf s ⌝ }
+{
+    match s {
+        Shape::Box => 4,
+        Shape::Tent => 9,
+        Shape::Triple => 16,
+        Shape::Diamond => 8,
+        Shape::Hexagon => 12,
+        Shape::Octagon => 12,
+    }
+}
+
+// How far a kernel reaches from its pixel: each box by its radius.
+pub fn reach(s: Shape, radius: u8) -> usize
+    ensures { λ r. ⌜ r ≡ reachOf s radius ⌝ }
+{
+    boxes(s) * radius as usize
+}
+
+// The largest radius of a shape on a plate whose kernels reach no further than `reach`.
+pub fn top_under(s: Shape, reach: usize) -> u8
+    ensures { λ r. ⌜ r ≡ topUnder s reach ⌝ }
+{
+    let most = top(s);
+    let within = reach / boxes(s);
+    if within < most {
+        return within as u8;
+    }
+    most as u8
 }

@@ -4,7 +4,7 @@ use native.Mathlib.Omega.{arith}
 use borrow.Author.Needs.{needs}
 use Rattle.kernels.specs.Share.{tableShare}
 use Rattle.kernels.proofs.Choices.{within-yes, within-no}
-use Rattle.kernels.proofs.Shares.{number-le}
+use Rattle.kernels.proofs.Shapes.{number-le}
 use Rattle.kernels.proofs.share.share_in.Statement.{statement}
 use Rattle.kernels.proofs.share.share_in.Tie as tie
 

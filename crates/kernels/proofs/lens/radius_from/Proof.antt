@@ -1,0 +1,43 @@
+-- The two checks are the definition's, `blurred` gives the radius, and the branch its minimum with the top.
+use mathlib.Core.Path.{_≡_, ap, sym, _∙_}
+use mathlib.Core.Bool.{true}
+use native.Mathlib.Omega.{arith}
+use borrow.Author.Needs.{needs}
+use borrow.Author.Tests.{not-true, not-false}
+use Rattle.kernels.specs.Lens.{lawfulLens, Pixels}
+use Rattle.kernels.proofs.Lenses.{no-lens, no-depth, in-pixels}
+use Rattle.kernels.proofs.lens.radius_from.Statement.{statement}
+use Rattle.kernels.proofs.lens.radius_from.Tie as tie
+
+lawful : (c : tie.Else1) → lawfulLens (c .before .before .args .l) ≡ true
+lawful c = sym (c .before .lawful-lens .ensures) ∙ not-false _ (c .if1 .left)
+
+lawful-lens-requires : tie.Need-lawful-lens-requires
+lawful-lens-requires c κs = search needs
+
+returns : tie.Need-returns
+returns c = sym (no-lens _ _ _ (sym (c .before .lawful-lens .ensures) ∙ not-true _ (c .if1 .taken)))
+
+returns-2 : tie.Need-returns-2
+returns-2 c = sym (no-depth _ _ _ (lawful (c .before)) (omega arith))
+
+blurred-requires : tie.Need-blurred-requires
+blurred-requires c κs = (lawful (c .before), omega arith)
+
+cast-t8 : tie.Need-cast-t8
+cast-t8 c = search needs
+
+returns-3 : tie.Need-returns-3
+returns-3 c =
+    rw (in-pixels _ _ _ (lawful (c .before .before .before)) (c .before .before .if2 .left))
+    (ap Pixels (omega (arith, c .before .blurred .ensures)))
+
+returns-4 : tie.Need-returns-4
+returns-4 c =
+    rw (in-pixels _ _ _ (lawful (c .before .before .before)) (c .before .before .if2 .left))
+    (ap Pixels (omega (arith, c .before .blurred .ensures)))
+
+pub radius-from-spec : {M : Type 1} → statement M
+radius-from-spec =
+    tie.close
+    (tie.spec lawful-lens-requires returns returns-2 blurred-requires cast-t8 returns-3 returns-4)

@@ -1,0 +1,42 @@
+// Rounding to the nearest, a half upwards.
+ghost use mathlib.Core.Path.{_≡_};
+ghost use Prim.Native.Nat.{_<_};
+ghost use Rattle.kernels.specs.Rounding.{nearest, shownValue, shownMatte};
+
+// a / b to the nearest, a half upwards. Nothing is doubled, so nothing wraps: the rest is at least a half where it is not
+// below what it lacks.
+pub(crate) fn rounded(a: u64, b: u64) -> u64
+    requires { ⌜ 0 < b ⌝ }
+    ensures { λ r. ⌜ r ≡ nearest a b ⌝ }
+{
+    let q = a / b;
+    let rest = a % b;
+    if rest < b - rest {
+        return q;
+    }
+    q + 1
+}
+
+// The value that a cell shows: its light for each part of its matte.
+pub fn shown_value(light: u64, matte: u64) -> u16
+    ensures { λ r. ⌜ r ≡ shownValue light matte ⌝ }
+{
+    if matte == 0 {
+        return 0;
+    }
+    let q = rounded(light, matte);
+    if q < 4095 {
+        return q as u16;
+    }
+    4095
+}
+
+// The matte that a cell shows. Below 255 × 8,388,608 adding a half does not wrap, and from there on it is 255.
+pub fn shown_matte(matte: u64) -> u8
+    ensures { λ r. ⌜ r ≡ shownMatte matte ⌝ }
+{
+    if matte < 2139095040 {
+        return ((matte + 4194304) / 8388608) as u8;
+    }
+    255
+}
