@@ -1,0 +1,164 @@
+-- The calls: what each answers, and what it leaves in every list that it is lent, for every input.
+use mathlib.Core.List.{List, [], _∷_, map}
+use Prim.Native.Nat.{ℕ, zero, suc, _+_, _*_, _-_, _/_, _%_, _^_, min}
+use lib.ListN.{getD, set, length, replicate}
+use Rattle.kernels.specs.Choice.{within}
+use Rattle.kernels.specs.Sum.{Planes, finish}
+use Rattle.kernels.specs.declared.shape.Shape.{Shape as ShapeOf}
+use Rattle.kernels.specs.declared.shape.ShapeRead.{ShapeRead}
+use Rattle.kernels.specs.declared.shape.ShapeRead.the-variants.{Known, Unknown}
+use Rattle.kernels.specs.Shape.{shapeOf, countOf, topUnder}
+use Rattle.kernels.specs.declared.lens.Lens.{Lens as LensOf}
+use Rattle.kernels.specs.Lens.{blur}
+use Rattle.kernels.specs.Rounding.{shownValue, shownMatte}
+use Rattle.plate.specs.Layout.{Size, wide, high, padded, cell, places, columnOf, rowOf}
+use Rattle.plate.specs.Word.{Pixel, empty, wordOf, Unpacked, Whole, Broken, readWord, Entry, EntryRead, Logged, Unreadable, readEntry}
+use Rattle.plate.specs.Refusal.{State, Answer, Refusal, StoredWord, Outcome, Accepted, Refused, sizeOf, stateOf, Lent, lent, Ask, Inputs, Views, views, sizedAs, openCheck, putCheck, undoCheck, fillCheck, showCheck}
+use Rattle.plate.specs.Marks.{exchanged, layGrid}
+
+-- what a call answers, and what it leaves of planes, pixels and log
+pub record Left : Type 0 where
+  pub answer : Answer
+  pub kept : Lent
+
+abbrev pub left : Answer → List ℕ → List ℕ → List ℕ → Left
+left a planes pixels log = record { answer = a; kept = lent planes pixels log }
+
+abbrev pub answerOf : Outcome → ℕ → State → Answer
+answerOf o n s = record { outcome = o; marks = n; state = s }
+
+-- "A refusal returns its number and mark count 0, the state is handed back unchanged .., every buffer untouched."
+abbrev pub refused : Refusal → State → Lent → Left
+refused f s l = record { answer = answerOf (Refused f) 0 s; kept = l }
+
+abbrev pub zeros : ℕ → List ℕ
+zeros n = replicate n 0
+
+-- f 0, .., f (n - 1)
+unfoldable pub listTo : {A : Type 0} → (ℕ → A) → ℕ → List A
+listTo f zero = []
+listTo f (suc n) = f 0 ∷ listTo (λ k. f (suc k)) n
+
+-- OPEN
+unfoldable pub openBy : Outcome → Size → Lent → Left
+-- "Open sets planes, pixels, every log entry and the log count to 0."
+openBy Accepted z l =
+    left (answerOf Accepted 0 (stateOf z 0)) (zeros (length (l .planes))) (zeros (length (l .pixels))) (zeros (length (l .log)))
+-- "(all zero from open)"
+openBy (Refused f) z l = refused f (record { width = 0; height = 0; reach = 0; count = 0 }) l
+
+unfoldable pub openCall : Size → Lent → Left
+openCall z l = openBy (openCheck z (sizedAs l)) z l
+
+-- PUT
+abbrev pub askedPlace : Size → Ask → ℕ
+askedPlace z a = a .y * z .width + a .x
+
+-- the pixel that an accepted put asks for; a put with no shape is never accepted
+abbrev pub knownShape : ShapeRead → ShapeOf
+knownShape (Known s) = s
+knownShape Unknown = empty .shape
+
+abbrev pub askedPixel : Ask → Pixel
+askedPixel a = record { value = a .value; opacity = a .opacity; shape = knownShape (shapeOf (a .shape)); radius = a .radius }
+
+-- "Put logs the old word in the entry at the log count and raises the count by one, takes its marks off, sets the new." It
+-- reports "the table's marks of the old shape plus those of the new".
+unfoldable pub putOver : Unpacked → State → Ask → Lent → Left
+putOver Broken s a l = refused StoredWord s l
+putOver (Whole old) s a l =
+    let z = sizeOf s in
+    let i = askedPlace z a in
+    let new = askedPixel a in
+    left (answerOf Accepted (countOf (old .shape) + countOf (new .shape)) (stateOf z (s .count + 1)))
+    (exchanged z i old new (l .planes))
+    (set (l .pixels) i (wordOf new))
+    (set (l .log) (s .count) (getD (l .pixels) i 0 + 2 ^ 32 * i))
+
+-- "For 10, put reads the word at its place"
+unfoldable pub putBy : Outcome → State → Ask → Lent → Left
+putBy (Refused f) s a l = refused f s l
+putBy Accepted s a l = putOver (readWord (s .reach) (getD (l .pixels) (askedPlace (sizeOf s) a) 0)) s a l
+
+unfoldable pub putCall : State → Ask → Lent → Left
+putCall s a l = putBy (putCheck s a (sizedAs l)) s a l
+
+-- UNDO
+-- "Undo restores the last logged word, marks too, zeroes that entry and lowers the count by one."
+unfoldable pub undoOver : ℕ → Pixel → Unpacked → State → Lent → Left
+undoOver i old Broken s l = refused StoredWord s l
+undoOver i old (Whole now) s l =
+    let z = sizeOf s in
+    left (answerOf Accepted (countOf (now .shape) + countOf (old .shape)) (stateOf z (s .count - 1)))
+    (exchanged z i now old (l .planes))
+    (set (l .pixels) i (wordOf old))
+    (set (l .log) (s .count - 1) 0)
+
+-- "For 10, .. undo the last entry and the word at that entry's place"
+unfoldable pub undoEntry : EntryRead → State → Lent → Left
+undoEntry Unreadable s l = refused StoredWord s l
+undoEntry (Logged e) s l = undoOver (e .place) (e .pixel) (readWord (s .reach) (getD (l .pixels) (e .place) 0)) s l
+
+unfoldable pub undoBy : Outcome → State → Lent → Left
+undoBy (Refused f) s l = refused f s l
+undoBy Accepted s l = undoEntry (readEntry (sizeOf s) (getD (l .log) (s .count - 1) 0)) s l
+
+unfoldable pub undoCall : State → Lent → Left
+undoCall s l = undoBy (undoCheck s (sizedAs l)) s l
+
+-- FILL
+-- "every pixel gets its value, its opacity, the one shape and the radius from its depth", "then at most the shape's top under R"
+unfoldable pub filled : Size → LensOf → ShapeOf → Inputs → ℕ → Pixel
+filled z l s f i =
+    record {
+      value = getD (f .values) i 0;
+      opacity = getD (f .opacities) i 0;
+      shape = s;
+      radius = min (topUnder s (z .reach)) (blur l (getD (f .depths) i 0));
+    }
+
+-- "Fill .. replaces everything and sets every log entry and the log count to 0."
+unfoldable pub fillBy : Outcome → State → LensOf → ℕ → Inputs → Lent → Left
+fillBy (Refused g) s o n f l = refused g s l
+fillBy Accepted s o n f l =
+    let z = sizeOf s in
+    let pixel = filled z o (knownShape (shapeOf n)) f in
+    left (answerOf Accepted 0 (stateOf z 0))
+    (layGrid z pixel (zeros (length (l .planes))) (places z))
+    (map wordOf (listTo pixel (places z)))
+    (zeros (length (l .log)))
+
+unfoldable pub fillCall : State → LensOf → ℕ → Inputs → Lent → Left
+fillCall s o n f l = fillBy (fillCheck s o n f (sizedAs l)) s o n f l
+
+-- SHOW
+-- seven of the planes, from plane p on, 0 outside
+unfoldable pub stored : Size → List ℕ → ℕ → Planes
+stored z planes p d x y =
+    within (suc x) (wide z) (within (suc y) (high z) (getD planes (cell z (p + d) x y) 0))
+
+-- the finished sum at a place, wrapped: light from plane 0 on, matte from plane 7 on
+unfoldable pub sumAt : Size → List ℕ → ℕ → ℕ → ℕ
+sumAt z planes p i = finish (stored z planes p) (columnOf z i) (rowOf z i) % 2 ^ 64
+
+-- what a show answers, and what it leaves of scratch and the pictures
+pub record Shown : Type 0 where
+  pub answer : Answer
+  pub seen : Views
+
+abbrev pub shown : Answer → List ℕ → List ℕ → List ℕ → Shown
+shown a scratch values mattes = record { answer = a; seen = views scratch values mattes }
+
+-- "Show writes values and mattes and leaves scratch all zero."
+unfoldable pub showBy : Outcome → State → List ℕ → Views → Shown
+showBy (Refused f) s planes v = record { answer = answerOf (Refused f) 0 s; seen = v }
+showBy Accepted s planes v =
+    let z = sizeOf s in
+    shown (answerOf Accepted 0 s)
+    (zeros (length (v .scratch)))
+    (listTo (λ i. shownValue (sumAt z planes 0 i) (sumAt z planes 7 i)) (places z))
+    (listTo (λ i. shownMatte (sumAt z planes 7 i)) (places z))
+
+unfoldable pub showCall : State → List ℕ → Views → Shown
+showCall s planes v =
+    showBy (showCheck s (length planes) (length (v .scratch)) (length (v .values)) (length (v .mattes))) s planes v

@@ -1,0 +1,33 @@
+-- Sizes of a plate, and where its cells lie.
+use Prim.Native.Nat.{ℕ, _+_, _*_, _/_, _%_}
+
+-- "A plate has width W, height H and reach R"
+pub record Size : Type 0 where
+  pub width : ℕ
+  pub height : ℕ
+  pub reach : ℕ
+
+-- "A padded plane has (W + 2R + 6) × (H + 2R + 6) cells .. call that count P."
+abbrev pub wide : Size → ℕ
+wide z = z .width + 2 * z .reach + 6
+
+abbrev pub high : Size → ℕ
+high z = z .height + 2 * z .reach + 6
+
+abbrev pub padded : Size → ℕ
+padded z = wide z * high z
+
+-- "There are 14 planes .. for light; then the same for matte": the cell of a plane at a column and a row
+abbrev pub cell : Size → ℕ → ℕ → ℕ → ℕ
+cell z p x y = p * padded z + (y * wide z + x)
+
+-- the pixels; "place being y × W + x"
+abbrev pub places : Size → ℕ
+places z = z .width * z .height
+
+-- "the image starting at column and row R + 3": a place's column and row in a padded plane
+abbrev pub columnOf : Size → ℕ → ℕ
+columnOf z i = i % z .width + z .reach + 3
+
+abbrev pub rowOf : Size → ℕ → ℕ
+rowOf z i = i / z .width + z .reach + 3

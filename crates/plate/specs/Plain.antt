@@ -1,0 +1,41 @@
+-- The plain pictures of a grid, and its marks.
+use mathlib.Core.List.{List}
+use Prim.Native.Nat.{ℕ, _*_, _/_, _%_, _^_}
+use lib.ListN.{getD}
+use Rattle.kernels.specs.Sum.{sum, dist}
+use Rattle.kernels.specs.Tap.{weight}
+use Rattle.kernels.specs.Rounding.{shownValue, shownMatte}
+use Rattle.plate.specs.Layout.{Size, places}
+use Rattle.plate.specs.Word.{Pixel, empty}
+use Rattle.plate.specs.Marks.{pixelMarks, total}
+use Rattle.plate.specs.Calls.{listTo}
+
+abbrev pub pixelAt : List Pixel → ℕ → Pixel
+pixelAt grid i = getD grid i empty
+
+-- "A pixel adds a × s × tap to the matte sum and v times that to the light sum."
+abbrev pub matteOf : Pixel → ℕ
+matteOf p = p .opacity
+
+abbrev pub lightOf : Pixel → ℕ
+lightOf p = p .value * p .opacity
+
+-- "at each image cell, the matte and light sums of all that its pixels add there by their kernels"
+unfoldable pub plainSum : Size → List Pixel → (Pixel → ℕ) → ℕ → ℕ
+plainSum z grid worth i =
+    sum
+    (λ j.
+    let p = pixelAt grid j in
+    worth p * weight (p .shape) (p .radius) (dist (i % z .width) (j % z .width)) (dist (i / z .width) (j / z .width)))
+    (places z)
+
+-- "rounded as above"
+unfoldable pub plainValues : Size → List Pixel → List ℕ
+plainValues z grid = listTo (λ i. shownValue (plainSum z grid lightOf i) (plainSum z grid matteOf i)) (places z)
+
+unfoldable pub plainMattes : Size → List Pixel → List ℕ
+plainMattes z grid = listTo (λ i. shownMatte (plainSum z grid matteOf i)) (places z)
+
+-- "The marks of a grid: at each cell of the planes, the sum, wrapped, of all marks that its pixels lay there."
+unfoldable pub gridCell : Size → List Pixel → ℕ → ℕ
+gridCell z grid k = sum (λ i. total z k (pixelMarks z i (pixelAt grid i))) (places z) % 2 ^ 64

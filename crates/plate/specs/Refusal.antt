@@ -1,0 +1,215 @@
+-- The refusals: their numbers, and what each call checks. "The lowest number that applies is given; a call checks only what it
+-- is lent."
+use mathlib.Core.Bool.{Bool, true, false, not}
+use mathlib.Core.List.{List, [], _∷_}
+use Prim.Native.Nat.{ℕ, _+_, _*_}
+use lib.Dec.{leb, ltb, eqb}
+use lib.ListN.{length}
+use Rattle.kernels.specs.Choice.{pick}
+use Rattle.kernels.specs.declared.shape.ShapeRead.{ShapeRead}
+use Rattle.kernels.specs.declared.shape.ShapeRead.the-variants.{Known, Unknown}
+use Rattle.kernels.specs.Shape.{shapeOf, topUnder}
+use Rattle.kernels.specs.declared.lens.Lens.{Lens as LensOf}
+use Rattle.kernels.specs.Lens.{lawfulLens}
+use Rattle.plate.specs.Layout.{Size, padded, places}
+pub use Rattle.plate.specs.declared.state.State.{State}
+pub use Rattle.plate.specs.declared.state.Answer.{Answer}
+pub use Rattle.plate.specs.declared.state.Refusal.{Refusal}
+pub use Rattle.plate.specs.declared.state.Refusal.the-variants.{Sizes, Lengths, LogCount, Place, Value, Shape, Radius, LogFull, LogEmpty, StoredWord, Lens, Depth}
+pub use Rattle.plate.specs.declared.state.Outcome.{Outcome}
+pub use Rattle.plate.specs.declared.state.Outcome.the-variants.{Accepted, Refused}
+
+-- "An accepted call returns number 0. A refusal returns its number"
+abbrev pub refusalNumber : Refusal → ℕ
+refusalNumber Sizes = 1
+refusalNumber Lengths = 2
+refusalNumber LogCount = 3
+refusalNumber Place = 4
+refusalNumber Value = 5
+refusalNumber Shape = 6
+refusalNumber Radius = 7
+refusalNumber LogFull = 8
+refusalNumber LogEmpty = 9
+refusalNumber StoredWord = 10
+refusalNumber Lens = 11
+refusalNumber Depth = 12
+
+abbrev pub outcomeNumber : Outcome → ℕ
+outcomeNumber Accepted = 0
+outcomeNumber (Refused f) = refusalNumber f
+
+-- the refusal where the test holds, else what comes next
+unfoldable pub refuseIf : Bool → Refusal → Outcome → Outcome
+refuseIf true f next = Refused f
+refuseIf false f next = next
+
+-- WHAT CALLS ARE GIVEN AND LENT
+abbrev pub sizeOf : State → Size
+sizeOf s = record { width = s .width; height = s .height; reach = s .reach }
+
+abbrev pub stateOf : Size → ℕ → State
+stateOf z n = record { width = z .width; height = z .height; reach = z .reach; count = n }
+
+pub record Lent : Type 0 where
+  pub planes : List ℕ
+  pub pixels : List ℕ
+  pub log : List ℕ
+
+abbrev pub lent : List ℕ → List ℕ → List ℕ → Lent
+lent planes pixels log = record { planes = planes; pixels = pixels; log = log }
+
+-- the lengths of what is lent
+pub record Sized : Type 0 where
+  pub planes : ℕ
+  pub pixels : ℕ
+  pub log : ℕ
+
+abbrev pub sized : ℕ → ℕ → ℕ → Sized
+sized planes pixels log = record { planes = planes; pixels = pixels; log = log }
+
+abbrev pub sizedAs : Lent → Sized
+sizedAs l = sized (length (l .planes)) (length (l .pixels)) (length (l .log))
+
+-- a put's arguments
+pub record Ask : Type 0 where
+  pub x : ℕ
+  pub y : ℕ
+  pub value : ℕ
+  pub opacity : ℕ
+  pub shape : ℕ
+  pub radius : ℕ
+
+abbrev pub ask : ℕ → ℕ → ℕ → ℕ → ℕ → ℕ → Ask
+ask x y v a s r = record { x = x; y = y; value = v; opacity = a; shape = s; radius = r }
+
+-- fill's three inputs
+pub record Inputs : Type 0 where
+  pub values : List ℕ
+  pub opacities : List ℕ
+  pub depths : List ℕ
+
+abbrev pub inputs : List ℕ → List ℕ → List ℕ → Inputs
+inputs values opacities depths = record { values = values; opacities = opacities; depths = depths }
+
+-- show's scratch and pictures
+pub record Views : Type 0 where
+  pub scratch : List ℕ
+  pub values : List ℕ
+  pub mattes : List ℕ
+
+abbrev pub views : List ℕ → List ℕ → List ℕ → Views
+views scratch values mattes = record { scratch = scratch; values = values; mattes = mattes }
+
+-- THE TABLE'S CONDITIONS
+-- 1: "W and H from 1 to 4,096, W × H at most 2,097,152 .., R from 0 to 64"
+unfoldable pub sizesCheck : Size → Outcome → Outcome
+sizesCheck z next =
+    refuseIf (ltb (z .width) 1) Sizes
+    (refuseIf (ltb 4096 (z .width)) Sizes
+    (refuseIf (ltb (z .height) 1) Sizes
+    (refuseIf (ltb 4096 (z .height)) Sizes
+    (refuseIf (ltb 2097152 (z .width * z .height)) Sizes
+    (refuseIf (ltb 64 (z .reach)) Sizes next)))))
+
+-- 2: "a lent length is wrong"
+abbrev pub lengthCheck : ℕ → ℕ → Outcome → Outcome
+lengthCheck n want next = refuseIf (not (eqb n want)) Lengths next
+
+-- "planes 14 × P, pixels W × H words .., log 0 to 65,535 entries"
+unfoldable pub lentCheck : Size → Sized → Outcome → Outcome
+lentCheck z n next =
+    lengthCheck (n .planes) (14 * padded z)
+    (lengthCheck (n .pixels) (places z) (refuseIf (ltb 65535 (n .log)) Lengths next))
+
+-- 3: "log count above log length"
+abbrev pub countCheck : ℕ → ℕ → Outcome → Outcome
+countCheck n room next = refuseIf (ltb room n) LogCount next
+
+-- 4: "x ≥ W or y ≥ H"
+unfoldable pub placeCheck : Size → Ask → Outcome → Outcome
+placeCheck z a next = refuseIf (leb (z .width) (a .x)) Place (refuseIf (leb (z .height) (a .y)) Place next)
+
+-- 5: "v above 4,095"
+abbrev pub valueCheck : ℕ → Outcome → Outcome
+valueCheck v next = refuseIf (ltb 4095 v) Value next
+
+-- 6: "shape above 5", and 7: "r above top under R"
+unfoldable pub kernelCheck : ℕ → ShapeRead → ℕ → Outcome → Outcome
+kernelCheck R Unknown r next = Refused Shape
+kernelCheck R (Known s) r next = refuseIf (ltb (topUnder s R) r) Radius next
+
+-- 8: "put: count equals log length"
+abbrev pub fullCheck : ℕ → ℕ → Outcome → Outcome
+fullCheck n room next = refuseIf (eqb n room) LogFull next
+
+-- 9: "undo: count 0"
+abbrev pub emptyCheck : ℕ → Outcome → Outcome
+emptyCheck n next = refuseIf (eqb n 0) LogEmpty next
+
+-- whether a number of the list is above the bound
+unfoldable pub anyAbove : ℕ → List ℕ → Bool
+anyAbove b [] = false
+anyAbove b (n ∷ ns) = pick (ltb b n) true (anyAbove b ns)
+
+unfoldable pub shapeCheck : ShapeRead → Outcome → Outcome
+shapeCheck Unknown next = Refused Shape
+shapeCheck (Known s) next = next
+
+-- 11: "D, f, S or p outside"
+abbrev pub lensCheck : LensOf → Outcome → Outcome
+lensCheck l next = refuseIf (not (lawfulLens l)) Lens next
+
+-- 12: "a depth above 10,000,000"
+abbrev pub depthsCheck : List ℕ → Outcome → Outcome
+depthsCheck depths next = refuseIf (anyAbove 10000000 depths) Depth next
+
+-- THE CHECKS OF EACH CALL, but for 10, which reads stored words
+-- 4 to 8, with the count and the log's length
+unfoldable pub askCheck : Size → ℕ → ℕ → Ask → Outcome
+askCheck z n room a =
+    placeCheck z a
+    (valueCheck (a .value) (kernelCheck (z .reach) (shapeOf (a .shape)) (a .radius) (fullCheck n room Accepted)))
+
+-- 2 for fill's inputs, "W × H each"
+unfoldable pub inputsCheck : Size → ℕ → ℕ → ℕ → Outcome → Outcome
+inputsCheck z values opacities depths next =
+    lengthCheck values (places z) (lengthCheck opacities (places z) (lengthCheck depths (places z) next))
+
+-- 5, 6, 11 and 12
+unfoldable pub layerCheck : LensOf → ℕ → Inputs → Outcome
+layerCheck l s f =
+    refuseIf (anyAbove 4095 (f .values)) Value
+    (shapeCheck (shapeOf s) (lensCheck l (depthsCheck (f .depths) Accepted)))
+
+-- 2 for scratch, "3 × P", and "the two pictures .. W × H each"
+unfoldable pub viewsCheck : Size → ℕ → ℕ → ℕ → Outcome
+viewsCheck z scratch values mattes =
+    lengthCheck scratch (3 * padded z) (lengthCheck values (places z) (lengthCheck mattes (places z) Accepted))
+
+-- open: 1 2
+unfoldable pub openCheck : Size → Sized → Outcome
+openCheck z n = sizesCheck z (lentCheck z n Accepted)
+
+-- put: 1 2 3 4 5 6 7 8
+unfoldable pub putCheck : State → Ask → Sized → Outcome
+putCheck s a n =
+    sizesCheck (sizeOf s)
+    (lentCheck (sizeOf s) n (countCheck (s .count) (n .log) (askCheck (sizeOf s) (s .count) (n .log) a)))
+
+-- undo: 1 2 3 9
+unfoldable pub undoCheck : State → Sized → Outcome
+undoCheck s n =
+    sizesCheck (sizeOf s) (lentCheck (sizeOf s) n (countCheck (s .count) (n .log) (emptyCheck (s .count) Accepted)))
+
+-- fill: 1 2 3 5 6 11 12
+unfoldable pub fillCheck : State → LensOf → ℕ → Inputs → Sized → Outcome
+fillCheck s o k f n =
+    sizesCheck (sizeOf s)
+    (lentCheck (sizeOf s) n
+    (inputsCheck (sizeOf s) (length (f .values)) (length (f .opacities)) (length (f .depths))
+    (countCheck (s .count) (n .log) (layerCheck o k f))))
+
+-- show: 1 2
+unfoldable pub showCheck : State → ℕ → ℕ → ℕ → ℕ → Outcome
+showCheck s planes scratch values mattes =
+    sizesCheck (sizeOf s) (lengthCheck planes (14 * padded (sizeOf s)) (viewsCheck (sizeOf s) scratch values mattes))

@@ -1,0 +1,46 @@
+-- Pixels, their words, and log entries.
+use Prim.Native.Nat.{ℕ, _+_, _*_, _/_, _%_, _^_}
+use lib.Dec.{leb, ltb}
+use Rattle.kernels.specs.Choice.{pick}
+use Rattle.kernels.specs.declared.shape.Shape.{Shape}
+use Rattle.kernels.specs.declared.shape.Shape.the-variants.{Box}
+use Rattle.kernels.specs.declared.shape.ShapeRead.{ShapeRead}
+use Rattle.kernels.specs.declared.shape.ShapeRead.the-variants.{Known, Unknown}
+use Rattle.kernels.specs.Shape.{numberOf, shapeOf, topUnder}
+use Rattle.plate.specs.Layout.{Size, places}
+pub use Rattle.plate.specs.declared.word.Pixel.{Pixel}
+pub use Rattle.plate.specs.declared.word.Unpacked.{Unpacked}
+pub use Rattle.plate.specs.declared.word.Unpacked.the-variants.{Whole, Broken}
+pub use Rattle.plate.specs.declared.word.Entry.{Entry}
+pub use Rattle.plate.specs.declared.word.EntryRead.{EntryRead}
+pub use Rattle.plate.specs.declared.word.EntryRead.the-variants.{Logged, Unreadable}
+
+-- "Word 0 is the empty pixel."
+abbrev pub empty : Pixel
+empty = record { value = 0; opacity = 0; shape = Box; radius = 0 }
+
+-- "Its word keeps the value in bits 0 to 11, opacity in 12 to 19, shape in 20 to 23, radius in 24 to 31, zeros above."
+abbrev pub wordOf : Pixel → ℕ
+wordOf p = p .value + 2 ^ 12 * p .opacity + 2 ^ 20 * numberOf (p .shape) + 2 ^ 24 * p .radius
+
+-- a word under R: broken where it "breaks .. 6, 7 or the zero bits" of the table of refusals
+abbrev pub pixelIn : ℕ → ℕ → ShapeRead → Unpacked
+pixelIn R w Unknown = Broken
+pixelIn R w (Known s) =
+    pick (ltb (topUnder s R) (w / 2 ^ 24 % 256)) Broken
+    (Whole (record { value = w % 4096; opacity = w / 2 ^ 12 % 256; shape = s; radius = w / 2 ^ 24 % 256 }))
+
+unfoldable pub readWord : ℕ → ℕ → Unpacked
+readWord R w = pick (leb (2 ^ 32) w) Broken (pixelIn R w (shapeOf (w / 2 ^ 20 % 16)))
+
+-- "entries of 64 bits (word + 2^32 × place, ..)"
+abbrev pub entryOf : Entry → ℕ
+entryOf e = wordOf (e .pixel) + 2 ^ 32 * e .place
+
+-- an entry of a plate: unreadable where its place breaks 4 or its word is broken
+abbrev pub entryIn : ℕ → Unpacked → EntryRead
+entryIn i Broken = Unreadable
+entryIn i (Whole p) = Logged (record { place = i; pixel = p })
+
+unfoldable pub readEntry : Size → ℕ → EntryRead
+readEntry z e = pick (leb (places z) (e / 2 ^ 32)) Unreadable (entryIn (e / 2 ^ 32) (readWord (z .reach) (e % 2 ^ 32)))

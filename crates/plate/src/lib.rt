@@ -1,0 +1,9 @@
+// The plate: a sharp layer's pixels as marks in fourteen planes. Knows nothing of records.
+pub mod state;
+pub mod word;
+
+pub use kernels::Lens;
+pub use state::Answer;
+pub use state::Outcome;
+pub use state::Refusal;
+pub use state::State;
