@@ -1,0 +1,103 @@
+-- What an accepted check tells: no test of it held.
+use mathlib.Core.Path.{_≡_, refl}
+use mathlib.Core.Bool.{Bool, true, false, not}
+use Prim.Native.Nat.{ℕ, _+_, _*_, _≤_, _<_}
+use native.Mathlib.Omega.{arith}
+use lib.Dec.{leb, ltb, eqb}
+use borrow.Author.Tests.{ltb-false, leb-false, eqb-true, eqb-false, not-false, le-ltb, eq-eqb}
+use Rattle.plate.specs.Layout.{Size, padded, places}
+use Rattle.plate.specs.Word.{Pixel}
+use Rattle.kernels.specs.Shape.{topUnder}
+use Rattle.plate.specs.Refusal.{Refusal, Outcome, Accepted, Refused, refuseIf, Sized, sizesCheck, lentCheck, openCheck}
+
+-- "W and H from 1 to 4,096, W × H at most 2,097,152 .., R from 0 to 64"
+pub record Lawful (z : Size) : Type 0 where
+  pub width-some : 1 ≤ z .width
+  pub width-top : z .width ≤ 4096
+  pub height-some : 1 ≤ z .height
+  pub height-top : z .height ≤ 4096
+  pub places-top : z .width * z .height ≤ 2097152
+  pub reach-top : z .reach ≤ 64
+
+-- a pixel of a plate of reach R
+pub record Fits (R : ℕ) (p : Pixel) : Type 0 where
+  pub value-fits : p .value ≤ 4095
+  pub opacity-fits : p .opacity < 256
+  pub radius-fits : p .radius ≤ topUnder (p .shape) R
+
+refused-not : {P : Type 0} (f : Refusal) → Refused f ≡ Accepted → P
+refused-not f e = let z : _≡_ {A = ℕ} 0 1 = cc in absurd (omega arith)
+
+pub passed : (t : Bool) (f : Refusal) (next : Outcome) → refuseIf t f next ≡ Accepted → (t ≡ false) × (next ≡ Accepted)
+unfolding refuseIf
+passed true f next e = refused-not f e
+passed false f next e = (refl, e)
+
+-- a test that does not hold refuses nothing
+pub passes : (t : Bool) (f : Refusal) (next : Outcome) → t ≡ false → refuseIf t f next ≡ next
+unfolding refuseIf
+passes t f next e = rw e
+
+pub sizes-passed : (z : Size) (next : Outcome) → sizesCheck z next ≡ Accepted → Lawful z × (next ≡ Accepted)
+unfolding sizesCheck
+sizes-passed z next e =
+    let q1 = passed (ltb (z .width) 1) _ _ e in
+    let q2 = passed (ltb 4096 (z .width)) _ _ (q1 .1) in
+    let q3 = passed (ltb (z .height) 1) _ _ (q2 .1) in
+    let q4 = passed (ltb 4096 (z .height)) _ _ (q3 .1) in
+    let q5 = passed (ltb 2097152 (z .width * z .height)) _ _ (q4 .1) in
+    let q6 = passed (ltb 64 (z .reach)) _ _ (q5 .1) in (
+      record {
+        width-some = ltb-false _ _ (q1 .0);
+        width-top = ltb-false _ _ (q2 .0);
+        height-some = ltb-false _ _ (q3 .0);
+        height-top = ltb-false _ _ (q4 .0);
+        places-top = ltb-false _ _ (q5 .0);
+        reach-top = ltb-false _ _ (q6 .0);
+      },
+      q6 .1,
+    )
+
+pub sizes-pass : (z : Size) (next : Outcome) → Lawful z → sizesCheck z next ≡ next
+unfolding sizesCheck
+sizes-pass z next h =
+    rw (
+      passes (ltb (z .width) 1) _ _ (le-ltb _ _ (h .width-some)),
+      passes (ltb 4096 (z .width)) _ _ (le-ltb _ _ (h .width-top)),
+      passes (ltb (z .height) 1) _ _ (le-ltb _ _ (h .height-some)),
+      passes (ltb 4096 (z .height)) _ _ (le-ltb _ _ (h .height-top)),
+      passes (ltb 2097152 (z .width * z .height)) _ _ (le-ltb _ _ (h .places-top)),
+      passes (ltb 64 (z .reach)) _ _ (le-ltb _ _ (h .reach-top)),
+    )
+
+-- what a plate's lengths are
+pub record LentFor (z : Size) (n : Sized) : Type 0 where
+  pub planes-are : n .planes ≡ 14 * padded z
+  pub pixels-are : n .pixels ≡ places z
+  pub log-top : n .log ≤ 65535
+
+pub lent-passed : (z : Size) (n : Sized) (next : Outcome) → lentCheck z n next ≡ Accepted → LentFor z n × (next ≡ Accepted)
+unfolding lentCheck
+lent-passed z n next e =
+    let q1 = passed (not (eqb (n .planes) (14 * padded z))) _ _ e in
+    let q2 = passed (not (eqb (n .pixels) (places z))) _ _ (q1 .1) in
+    let q3 = passed (ltb 65535 (n .log)) _ _ (q2 .1) in (
+      record {
+        planes-are = eqb-true _ _ (not-false _ (q1 .0));
+        pixels-are = eqb-true _ _ (not-false _ (q2 .0));
+        log-top = ltb-false _ _ (q3 .0);
+      },
+      q3 .1,
+    )
+
+pub length-pass : (n want : ℕ) → n ≡ want → not (eqb n want) ≡ false
+length-pass n want e = rw (eq-eqb n want e)
+
+pub lent-pass : (z : Size) (n : Sized) (next : Outcome) → LentFor z n → lentCheck z n next ≡ next
+unfolding lentCheck
+lent-pass z n next h =
+    rw (
+      passes _ _ _ (length-pass (n .planes) (14 * padded z) (h .planes-are)),
+      passes _ _ _ (length-pass (n .pixels) (places z) (h .pixels-are)),
+      passes (ltb 65535 (n .log)) _ _ (le-ltb _ _ (h .log-top)),
+    )
