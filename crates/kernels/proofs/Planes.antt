@@ -113,12 +113,12 @@ finish-times c m = simp (across-times, down-times, slope-times, times-add)
 pub finish-cong : (m n : Planes) → ((p : ℕ) → m p ≈² n p) → finish m ≈² finish n
 unfolding finish chain
 finish-cong m n h =
-    down-cong _ _ (add-cong _ _ _ _ (slope-cong 0 2 _ _ (h 0))
-    (add-cong _ _ _ _ (slope-cong 0 1 _ _ (h 1))
+    down-cong _ _ (add-cong _ _ _ _ (slope-cong _ _ _ _ (h _))
+    (add-cong _ _ _ _ (slope-cong _ _ _ _ (h _))
     (add-cong _ _ _ _
-    (slope-cong 0 0 _ _ (add-cong _ _ _ _ (h 2)
-    (down-cong _ _ (across-cong _ _ (add-cong _ _ _ _ (h 5) (down-cong _ _ (across-cong _ _ (h 6))))))))
-    (add-cong _ _ _ _ (slope-cong 1 0 _ _ (h 3)) (slope-cong 2 0 _ _ (h 4))))))
+    (slope-cong _ _ _ _ (add-cong _ _ _ _ (h _)
+    (down-cong _ _ (across-cong _ _ (add-cong _ _ _ _ (h _) (down-cong _ _ (across-cong _ _ (h _))))))))
+    (add-cong _ _ _ _ (slope-cong _ _ _ _ (h _)) (slope-cong _ _ _ _ (h _))))))
 
 -- BLANK PLANES
 add-blank : (f : Plane) → add f blank ≡ f
