@@ -12,7 +12,7 @@ use Rattle.kernels.proofs.Choices.{by-lt, by-eq, if-within, within-yes,
 use Rattle.kernels.proofs.Sums.{sum-ext, sum-add, sum-mul, sum-zero, sum-front, sum-product, _≈_, cong-mul, sum-cong}
 use Rattle.kernels.proofs.Boxes.{scale, mix, rowMarks, runnings, shift-same, box-fact, boxes-mark}
 use Rattle.kernels.proofs.Planes.{_≈²_, only, product, both, both-product, product-cong, finish-cong, Boxed, finish-boxes}
-use Rattle.kernels.proofs.Lines.{append-at}
+use Rattle.kernels.proofs.Lines.{planes-to}
 
 -- c to the i-th
 unfoldable power : ℕ → ℕ → ℕ
@@ -92,11 +92,6 @@ row-marks c (suc n) l s x =
     rw b (omega arith)
 
 -- OVER BOTH AXES
-planes-to : (f : ℕ → List Mark) (n p x y : ℕ) → planesOf (marksTo f n) p x y ≡ sum (λ i. planesOf (f i) p x y) n
-unfolding marksTo sum
-planes-to f zero p x y = unfold planesOf in refl
-planes-to f (suc n) p x y = append-at (marksTo f n) (f n) p x y ∙ rw (planes-to f n p x y)
-
 one-mark : (m : Mark) (p x y : ℕ) → planesOf (m ∷ []) p x y ≡ same p (m .plane) (same x (m .column) (same y (m .row) (m .coefficient)))
 unfolding planesOf
 one-mark m p x y = omega arith

@@ -7,7 +7,7 @@ use lib.Dec.{ltb}
 use borrow.Author.Tests.{lt-ltb, le-ltb}
 use Rattle.kernels.specs.Choice.{pick, within, same}
 use Rattle.kernels.specs.Sum.{sum, Plane, Planes, running, down, add, slope, finish}
-use Rattle.kernels.specs.Mark.{Mark, mark, Run, run, line, flipped, scaled, planesOf}
+use Rattle.kernels.specs.Mark.{Mark, mark, Run, run, line, flipped, marksTo, scaled, planesOf}
 use Rattle.kernels.proofs.Choices.{by-lt, if-within, within-yes, within-no, within-as, same-as, same-add, same-mul}
 use Rattle.kernels.proofs.Sums.{sum-ext, sum-zero, sum-same, cong-add}
 use Rattle.kernels.proofs.Slopes.{at-cell, piece, ends, piece-fact}
@@ -27,6 +27,22 @@ pub finish-append : (ms ns : List Mark) (x y : ℕ)
     → finish (planesOf (ms ++ ns)) x y ≡ finish (planesOf ms) x y + finish (planesOf ns) x y
 unfolding add
 finish-append ms ns x y = rw (planes-append ms ns, finish-add)
+
+nothing : (x y : ℕ) → finish (planesOf []) x y ≡ 0
+nothing x y =
+    let e : finish (planesOf []) x y ≡ finish (planesOf []) x y + finish (planesOf []) x y = finish-append [] [] x y in
+    omega arith
+
+-- lists of marks one after the other
+pub planes-to : (f : ℕ → List Mark) (n p x y : ℕ) → planesOf (marksTo f n) p x y ≡ sum (λ i. planesOf (f i) p x y) n
+unfolding marksTo sum
+planes-to f zero p x y = unfold planesOf in refl
+planes-to f (suc n) p x y = rw (append-at (marksTo f n) (f n) p x y, planes-to f n p x y)
+
+pub finish-to : (f : ℕ → List Mark) (n x y : ℕ) → finish (planesOf (marksTo f n)) x y ≡ sum (λ i. finish (planesOf (f i)) x y) n
+unfolding marksTo sum
+finish-to f zero x y = nothing x y
+finish-to f (suc n) x y = rw (finish-append (marksTo f n) (f n) x y, finish-to f n x y)
 
 scaled-at : (c : ℕ) (ms : List Mark) (p x y : ℕ) → planesOf (scaled c ms) p x y ≡ c * planesOf ms p x y
 unfolding planesOf scaled
@@ -149,11 +165,6 @@ strips x0 n m x a b c p q =
     (λ k. by-lt x (x0 + n + m)
     (λ i. omega (arith, strip-right x0 n x a k, strip-in (x0 + n) m x b k i, strip-in x0 (n + m) x c g (omega arith), q k))
     (λ i. omega (arith, strip-right x0 n x a k, strip-right (x0 + n) m x b i, strip-right x0 (n + m) x c (omega arith)))))
-
-nothing : (x y : ℕ) → finish (planesOf []) x y ≡ 0
-nothing x y =
-    let e : finish (planesOf []) x y ≡ finish (planesOf []) x y + finish (planesOf []) x y = finish-append [] [] x y in
-    omega arith
 
 pub line-fact : (p q k x0 y0 : ℕ) (runs : List Run) → p + q ≡ 2 ^ 64 * k → Walk runs y0 → (x y : ℕ)
     → finish (planesOf (line p q x0 y0 runs)) x y % 2 ^ 64

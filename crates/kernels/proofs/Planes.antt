@@ -120,6 +120,25 @@ finish-cong m n h =
     (down-cong _ _ (across-cong _ _ (add-cong _ _ _ _ (h _) (down-cong _ _ (across-cong _ _ (h _))))))))
     (add-cong _ _ _ _ (slope-cong _ _ _ _ (h _)) (slope-cong _ _ _ _ (h _))))))
 
+-- the first seven of some planes
+unfoldable firstSeven : Planes → Planes
+firstSeven m d x y = within (suc d) 7 (m d x y)
+
+-- finishing reads no others
+finish-seven : (m : Planes) → finish (firstSeven m) ≡ finish m
+unfolding finish chain firstSeven within
+finish-seven m = refl
+
+seven-cong : (m n : Planes) → ((d : ℕ) → d < 7 → m d ≈² n d) → (d : ℕ) → firstSeven m d ≈² firstSeven n d
+unfolding firstSeven
+seven-cong m n h d x y =
+    by-lt 7 (suc d)
+    (λ g. rw (within-no (suc d) 7 (m d x y), within-no (suc d) 7 (n d x y)))
+    (λ g. rw (within-yes (suc d) 7 (m d x y), within-yes (suc d) 7 (n d x y)) (h d g x y))
+
+pub finish-cong-seven : (m n : Planes) → ((d : ℕ) → d < 7 → m d ≈² n d) → finish m ≈² finish n
+finish-cong-seven m n h = rw (← finish-seven m, ← finish-seven n) (finish-cong (firstSeven m) (firstSeven n) (seven-cong m n h))
+
 -- BLANK PLANES
 add-blank : (f : Plane) → add f blank ≡ f
 unfolding add blank
