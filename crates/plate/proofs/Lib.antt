@@ -1,3 +1,12 @@
 pub mod Checks
+pub mod Words
 pub mod Cells
 pub mod Sums
+pub mod Laying
+pub mod Listing
+pub mod Logs
+pub mod Kept
+pub mod Refilled
+pub mod Demand
+pub mod Reports
+pub mod Worked

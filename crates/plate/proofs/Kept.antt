@@ -1,0 +1,283 @@
+-- The invariant of a list of calls: the plate mirrors the notebook. Put and undo keep it, and report what the notebook reports.
+use mathlib.Core.Path.{_≡_, refl, ap, sym, _∙_}
+use mathlib.Core.List.{List, [], _∷_, map}
+use Prim.Native.Nat.{ℕ, zero, suc, _+_, _*_, _-_, _^_, _≤_, _<_}
+use native.Mathlib.Omega.{arith}
+use native.Mathlib.Nat.{mul-comm}
+use lib.Arith.{digits-lt}
+use lib.Dec.{ltb, leb, eqb}
+use lib.ListN.{getD, set, length, length-set, length-map}
+use lib.Seq.{getD-set-same, getD-set-other}
+use borrow.Author.Tests.{ltb-false, leb-false, eqb-false, le-ltb, ne-eqb}
+use Rattle.kernels.specs.Sum.{sum}
+use Rattle.kernels.specs.declared.shape.ShapeRead.{ShapeRead}
+use Rattle.kernels.specs.declared.shape.ShapeRead.the-variants.{Known, Unknown}
+use Rattle.kernels.specs.Shape.{shapeOf, topUnder}
+use Rattle.kernels.proofs.Choices.{by-lt}
+use Rattle.kernels.proofs.Sums.{sum-ext-lt}
+use Rattle.plate.specs.Layout.{Size, padded, places}
+use Rattle.plate.specs.Word.{Pixel, wordOf, Entry}
+use Rattle.plate.specs.Refusal.{Refusal, LogEmpty, Outcome, Accepted, Refused, refuseIf, stateOf, Lent, lent, sizedAs, Ask, sizesCheck, lentCheck, countCheck, placeCheck, kernelCheck, emptyCheck, askCheck, putCheck, undoCheck}
+use Rattle.plate.specs.Marks.{pixelMarks, total, exchanged}
+use Rattle.plate.specs.Calls.{refused, askedPlace, askedPixel, knownShape, putOver, putBy, putCall, undoOver, undoEntry, undoBy, undoCall}
+use Rattle.plate.specs.Plain.{pixelAt, gridCell}
+use Rattle.plate.specs.Notebook.{bookOf, Report, Turn, turn, turnedDown, bookPutBy, bookPut, bookUndoOf, bookUndo}
+use Rattle.plate.specs.Lists.{Plate, Step, stepOf}
+use Rattle.plate.proofs.Checks.{Lawful, Fits, passed, passes, sizes-pass, LentFor, lent-pass}
+use Rattle.plate.proofs.Words.{read-back, entry-back}
+use Rattle.plate.proofs.Laying.{length-exchanged, exchanged-cell}
+use Rattle.plate.proofs.Listing.{map-set, set-each, word-at}
+use Rattle.plate.proofs.Logs.{logBy, log-length, log-top, log-undone}
+
+-- THE INVARIANT
+-- each entry's place is on the plate, and its pixel is lawful
+unfoldable pub PileFits : Size → List Entry → Type 0
+PileFits z [] = Unit {0}
+PileFits z (e ∷ pile) = (e .place < places z) × Fits (z .reach) (e .pixel) × PileFits z pile
+
+pub record Kept (z : Size) (room : ℕ) (planes : List ℕ) (grid : List Pixel) (pile : List Entry) : Type 0 where
+  pub lawful : Lawful z
+  pub cells-count : length planes ≡ 14 * padded z
+  pub each-cell : (k : ℕ) → k < 14 * padded z → getD planes k 0 ≡ gridCell z grid k
+  pub grid-size : length grid ≡ places z
+  pub grid-fits : (i : ℕ) → Fits (z .reach) (pixelAt grid i)
+  pub pile-fits : PileFits z pile
+  pub height-fits : length pile ≤ room
+  pub room-top : room ≤ 65535
+
+-- what the plate of a notebook keeps, and that plate; only its planes are not made of grid and pile
+abbrev pub heldBy : ℕ → List ℕ → List Pixel → List Entry → Lent
+heldBy room planes grid pile = lent planes (map wordOf grid) (logBy room pile)
+
+abbrev pub mirror : Size → ℕ → List ℕ → List Pixel → List Entry → Plate
+mirror z room planes grid pile = record { state = stateOf z (length pile); kept = heldBy room planes grid pile }
+
+-- a plate's step and a notebook's turn that agree: the same report, and the invariant after them
+pub record Agree (z : Size) (room : ℕ) (s : Step) (t : Turn) : Type 0 where
+  pub planes : List ℕ
+  pub grid : List Pixel
+  pub pile : List Entry
+  pub same-report : s .report ≡ t .report
+  pub same-plate : s .plate ≡ mirror z room planes grid pile
+  pub same-book : t .book ≡ bookOf z room grid pile
+  pub kept : Kept z room planes grid pile
+
+-- the same counts and lists make the same plate
+plate-eq : (z : Size) (planes : List ℕ) {c c' : ℕ} {pixels pixels' log log' : List ℕ} → c ≡ c' → pixels ≡ pixels' → log ≡ log'
+    → _≡_ {A = Plate} (record { state = stateOf z c; kept = lent planes pixels log })
+    (record { state = stateOf z c'; kept = lent planes pixels' log' })
+plate-eq z planes p q r = λ i. record { state = stateOf z (p i); kept = lent planes (q i) (r i) }
+
+-- ONE PIXEL CHANGED
+-- one term of a sum changed
+sum-set : (f g : ℕ → ℕ) (i n : ℕ) → ((j : ℕ) → (j ≡ i → ⊥) → f j ≡ g j) → i < n → sum g n + f i ≡ sum f n + g i
+unfolding sum
+sum-set f g i zero h p = absurd (omega arith)
+sum-set f g i (suc n) h p =
+    by-lt i n
+    (λ q. omega (arith, sum-set f g i n h q, h n (omega arith)))
+    (λ q.
+    let e : n ≡ i = omega arith in
+    omega (arith, sum-ext-lt f g n (λ j l. h j (omega arith)), ap f e, ap g e))
+
+-- what the pixel at a place lays on a cell
+laid : Size → List Pixel → ℕ → ℕ → ℕ
+laid z grid k i = total z k (pixelMarks z i (pixelAt grid i))
+
+changed-cell : (z : Size) (room : ℕ) (planes : List ℕ) (grid : List Pixel) (pile : List Entry) (i : ℕ) (new : Pixel)
+    → Kept z room planes grid pile → i < places z → (k : ℕ) → k < 14 * padded z
+    → getD (exchanged z i (pixelAt grid i) new planes) k 0 ≡ gridCell z (set grid i new) k
+unfolding gridCell laid
+changed-cell z room planes grid pile i new kept h k b =
+    let after = set grid i new in
+    let one : sum (laid z after k) (places z) + laid z grid k i ≡ sum (laid z grid k) (places z) + laid z after k i =
+    sum-set (laid z grid k) (laid z after k) i (places z)
+    (λ j n. ap (λ (p : Pixel). total z k (pixelMarks z j p)) (sym (getD-set-other grid i j new _ n)))
+    h in
+    let here : pixelAt after i ≡ new = getD-set-same grid i new _ (omega (arith, kept .grid-size)) in
+    exchanged-cell z i (pixelAt grid i) new planes k (sum (laid z grid k) (places z)) (sum (laid z after k) (places z))
+    (omega (arith, kept .cells-count)) (kept .each-cell k b) (rw here at one)
+
+pub changed : (z : Size) (room : ℕ) (planes : List ℕ) (grid : List Pixel) (pile pile' : List Entry) (i : ℕ) (new : Pixel)
+    → Kept z room planes grid pile → i < places z → Fits (z .reach) new → length pile' ≤ room → PileFits z pile'
+    → Kept z room (exchanged z i (pixelAt grid i) new planes) (set grid i new) pile'
+changed z room planes grid pile pile' i new kept h fits height pile-fits =
+    record {
+      lawful = kept .lawful;
+      cells-count = length-exchanged z i _ new planes ∙ kept .cells-count;
+      each-cell = changed-cell z room planes grid pile i new kept h;
+      grid-size = length-set grid i new ∙ kept .grid-size;
+      grid-fits = set-each (Fits (z .reach)) grid i new _ fits (kept .grid-fits);
+      pile-fits = pile-fits;
+      height-fits = height;
+      room-top = kept .room-top;
+    }
+
+-- WHAT AN ACCEPTED PUT ASKS
+pub record Asked (z : Size) (count room : ℕ) (a : Ask) : Type 0 where
+  pub in-row : a .x < z .width
+  pub in-column : a .y < z .height
+  pub value-top : a .value ≤ 4095
+  pub radius-top : a .radius ≤ topUnder (knownShape (shapeOf (a .shape))) (z .reach)
+  pub has-room : count ≡ room → ⊥
+
+kernel-passed : (R : ℕ) (s : ShapeRead) (r : ℕ) (next : Outcome) → kernelCheck R s r next ≡ Accepted
+    → (r ≤ topUnder (knownShape s) R) × (next ≡ Accepted)
+unfolding kernelCheck
+kernel-passed R Unknown r next e = let z : _≡_ {A = ℕ} 0 1 = cc in absurd (omega arith)
+kernel-passed R (Known s) r next e =
+    let q = passed (ltb (topUnder s R) r) _ next e in
+    (ltb-false (topUnder s R) r (q .0), q .1)
+
+pub asked : (z : Size) (count room : ℕ) (a : Ask) → askCheck z count room a ≡ Accepted → Asked z count room a
+unfolding askCheck placeCheck
+asked z count room a e =
+    let q1 = passed (leb (z .width) (a .x)) _ _ e in
+    let q2 = passed (leb (z .height) (a .y)) _ _ (q1 .1) in
+    let q3 = passed (ltb 4095 (a .value)) _ _ (q2 .1) in
+    let q4 = kernel-passed (z .reach) (shapeOf (a .shape)) (a .radius) _ (q3 .1) in
+    let q5 = passed (eqb count room) _ _ (q4 .1) in
+    record {
+      in-row = leb-false _ _ (q1 .0);
+      in-column = leb-false _ _ (q2 .0);
+      value-top = ltb-false _ _ (q3 .0);
+      radius-top = q4 .0;
+      has-room = eqb-false _ _ (q5 .0);
+    }
+
+place-in : (z : Size) (a : Ask) → a .x < z .width → a .y < z .height → askedPlace z a < places z
+place-in z a p q = omega (arith, digits-lt q p, mul-comm (z .height) (z .width))
+
+-- STEPS
+module _ (z : Size) (room : ℕ) (planes : List ℕ) (grid : List Pixel) (pile : List Entry) (kept : Kept z room planes grid pile) where
+  -- "2 comes there only from these, and 1, 3 and 10 are never given"
+  pub lent-kept : LentFor z (sizedAs (heldBy room planes grid pile))
+  lent-kept =
+      record {
+        planes-are = kept .cells-count;
+        pixels-are = length-map grid wordOf ∙ kept .grid-size;
+        log-top = omega (arith, log-length room pile, kept .room-top);
+      }
+
+  pub count-kept : (next : Outcome) → countCheck (length pile) (length (logBy room pile)) next ≡ next
+  count-kept next =
+      passes _ _ next (le-ltb (length (logBy room pile)) (length pile) (omega (arith, log-length room pile, kept .height-fits)))
+
+  checks-kept : (next : Outcome)
+      → sizesCheck z (lentCheck z (sizedAs (heldBy room planes grid pile))
+      (countCheck (length pile) (length (logBy room pile)) next)) ≡ next
+  checks-kept next = sizes-pass z _ (kept .lawful) ∙ lent-pass z _ _ lent-kept ∙ count-kept next
+
+  -- a call that changes nothing
+  pub agree-still : (r q : Report) → r ≡ q
+      → Agree z room (record { report = r; plate = mirror z room planes grid pile }) (turn q (bookOf z room grid pile))
+  agree-still r q e =
+      record {
+        planes = planes;
+        grid = grid;
+        pile = pile;
+        same-report = e;
+        same-plate = refl;
+        same-book = refl;
+        kept = kept;
+      }
+
+  pub agree-refused : (f : Refusal)
+      → Agree z room
+      (stepOf (refused f (stateOf z (length pile)) (heldBy room planes grid pile)))
+      (turnedDown (Refused f) (bookOf z room grid pile))
+  agree-refused f = agree-still _ _ refl
+
+  -- PUT
+  put-done : (a : Ask) → a .opacity < 256 → Asked z (length pile) room a
+      → Agree z room
+      (stepOf (putBy Accepted (stateOf z (length pile)) a (heldBy room planes grid pile)))
+      (bookPutBy Accepted (bookOf z room grid pile) a)
+  unfolding putBy putOver bookPutBy logBy PileFits
+  put-done a byte ok =
+      let i = askedPlace z a in
+      let old = pixelAt grid i in
+      let new = askedPixel a in
+      let inside : i < places z = place-in z a (ok .in-row) (ok .in-column) in
+      let fits : Fits (z .reach) new =
+      record { value-fits = ok .value-top; opacity-fits = byte; radius-fits = ok .radius-top } in
+      let has-room : length pile ≡ room → ⊥ = ok .has-room in
+      let height : suc (length pile) ≤ room = omega (arith, kept .height-fits) in
+      let more : length pile + 1 ≡ suc (length pile) = omega arith in
+      rw (word-at grid i, read-back (z .reach) old (kept .grid-fits i))
+      (record {
+        planes = exchanged z i old new planes;
+        grid = set grid i new;
+        pile = record { place = i; pixel = old } ∷ pile;
+        same-report = refl;
+        same-plate = plate-eq z (exchanged z i old new planes) more (sym (map-set wordOf grid i new))
+            (ap (λ (w : ℕ). set (logBy room pile) (length pile) (w + 2 ^ 32 * i)) (word-at grid i));
+        same-book = refl;
+        kept = changed z room planes grid pile (record { place = i; pixel = old } ∷ pile) i new kept inside fits height
+            (inside, kept .grid-fits i, kept .pile-fits);
+      })
+
+  put-by : (a : Ask) → a .opacity < 256 → (o : Outcome) → askCheck z (length pile) room a ≡ o
+      → Agree z room
+      (stepOf (putBy o (stateOf z (length pile)) a (heldBy room planes grid pile)))
+      (bookPutBy o (bookOf z room grid pile) a)
+  put-by a byte Accepted e = put-done a byte (asked z (length pile) room a e)
+  put-by a byte (Refused f) e = unfold putBy bookPutBy in (agree-refused f)
+
+  pub put-agrees : (a : Ask) → a .opacity < 256
+      → Agree z room
+      (stepOf (putCall (stateOf z (length pile)) a (heldBy room planes grid pile)))
+      (bookPut (bookOf z room grid pile) a)
+  unfolding putCall bookPut putCheck
+  put-agrees a byte =
+      rw (checks-kept (askCheck z (length pile) (length (logBy room pile)) a), log-length room pile)
+      (put-by a byte (askCheck z (length pile) room a) refl)
+
+-- UNDO
+undo-done : (z : Size) (room : ℕ) (planes : List ℕ) (grid : List Pixel) (e : Entry) (pile : List Entry)
+    → Kept z room planes grid (e ∷ pile)
+    → Agree z room
+    (stepOf (undoBy Accepted (stateOf z (suc (length pile))) (heldBy room planes grid (e ∷ pile))))
+    (bookUndoOf z room grid (e ∷ pile))
+unfolding undoBy undoEntry undoOver bookUndoOf PileFits
+undo-done z room planes grid e pile kept =
+    let fits = kept .pile-fits in
+    let i = e .place in
+    let now = pixelAt grid i in
+    let less : suc (length pile) - 1 ≡ length pile = omega arith in
+    rw (
+      less,
+      log-top room e pile (kept .height-fits),
+      entry-back z e (fits .0) (fits .1),
+      word-at grid i,
+      read-back (z .reach) now (kept .grid-fits i),
+    )
+    (record {
+      planes = exchanged z i now (e .pixel) planes;
+      grid = set grid i (e .pixel);
+      pile = pile;
+      same-report = refl;
+      same-plate = plate-eq z (exchanged z i now (e .pixel) planes) less (sym (map-set wordOf grid i (e .pixel)))
+          (ap (λ (n : ℕ). set (logBy room (e ∷ pile)) n 0) less ∙ log-undone room e pile);
+      same-book = refl;
+      kept = changed z room planes grid (e ∷ pile) pile i (e .pixel) kept (fits .0) (fits .1)
+          (omega (arith, kept .height-fits)) (fits .2);
+    })
+
+undo-by : (z : Size) (room : ℕ) (planes : List ℕ) (grid : List Pixel) (pile : List Entry) → Kept z room planes grid pile
+    → Agree z room
+    (stepOf (undoBy (emptyCheck (length pile) Accepted) (stateOf z (length pile)) (heldBy room planes grid pile)))
+    (bookUndoOf z room grid pile)
+undo-by z room planes grid [] kept =
+    unfold undoBy bookUndoOf refuseIf in (agree-refused z room planes grid [] kept LogEmpty)
+undo-by z room planes grid (e ∷ pile) kept =
+    rw (passes (eqb (suc (length pile)) 0) LogEmpty Accepted (ne-eqb (suc (length pile)) 0 (omega arith)))
+    (undo-done z room planes grid e pile kept)
+
+pub undo-agrees : (z : Size) (room : ℕ) (planes : List ℕ) (grid : List Pixel) (pile : List Entry) → Kept z room planes grid pile
+    → Agree z room
+    (stepOf (undoCall (stateOf z (length pile)) (heldBy room planes grid pile)))
+    (bookUndo (bookOf z room grid pile))
+unfolding undoCall undoCheck bookUndo
+undo-agrees z room planes grid pile kept =
+    rw (checks-kept z room planes grid pile kept (emptyCheck (length pile) Accepted)) (undo-by z room planes grid pile kept)
