@@ -1,14 +1,17 @@
 -- What an accepted check tells: no test of it held.
 use mathlib.Core.Path.{_≡_, refl}
 use mathlib.Core.Bool.{Bool, true, false, not}
-use Prim.Native.Nat.{ℕ, _+_, _*_, _≤_, _<_}
+use Prim.Native.Nat.{ℕ, _*_, _≤_, _<_}
 use native.Mathlib.Omega.{arith}
-use lib.Dec.{leb, ltb, eqb}
-use borrow.Author.Tests.{ltb-false, leb-false, eqb-true, eqb-false, not-false, le-ltb, eq-eqb}
+use lib.Dec.{ltb, eqb}
+use borrow.Author.Tests.{ltb-false, eqb-true, not-false, le-ltb, eq-eqb}
 use Rattle.plate.specs.Layout.{Size, padded, places}
 use Rattle.plate.specs.Word.{Pixel}
+use Rattle.kernels.specs.declared.shape.ShapeRead.{ShapeRead}
+use Rattle.kernels.specs.declared.shape.ShapeRead.the-variants.{Known, Unknown}
 use Rattle.kernels.specs.Shape.{topUnder}
-use Rattle.plate.specs.Refusal.{Refusal, Outcome, Accepted, Refused, refuseIf, Sized, sizesCheck, lentCheck, openCheck}
+use Rattle.plate.specs.Calls.{knownShape}
+use Rattle.plate.specs.Refusal.{Refusal, Outcome, Accepted, Refused, refuseIf, Sized, sizesCheck, lentCheck, kernelCheck}
 
 -- "W and H from 1 to 4,096, W × H at most 2,097,152 .., R from 0 to 64"
 pub record Lawful (z : Size) : Type 0 where
@@ -101,3 +104,12 @@ lent-pass z n next h =
       passes _ _ _ (length-pass (n .pixels) (places z) (h .pixels-are)),
       passes (ltb 65535 (n .log)) _ _ (le-ltb _ _ (h .log-top)),
     )
+
+-- 6 and 7: a known shape, and a radius up to its top under R
+pub kernel-passed : (R : ℕ) (s : ShapeRead) (r : ℕ) (next : Outcome) → kernelCheck R s r next ≡ Accepted
+    → (s ≡ Known (knownShape s)) × (r ≤ topUnder (knownShape s) R) × (next ≡ Accepted)
+unfolding kernelCheck
+kernel-passed R Unknown r next e = let z : _≡_ {A = ℕ} 0 1 = cc in absurd (omega arith)
+kernel-passed R (Known s) r next e =
+    let q = passed (ltb (topUnder s R) r) _ next e in
+    (refl, ltb-false (topUnder s R) r (q .0), q .1)

@@ -3,27 +3,24 @@ use mathlib.Core.Path.{_≡_, refl, ap, sym, _∙_}
 use mathlib.Core.List.{List, [], _∷_, map}
 use Prim.Native.Nat.{ℕ, zero, suc, _+_, _*_, _-_, _^_, _≤_, _<_}
 use native.Mathlib.Omega.{arith}
-use native.Mathlib.Nat.{mul-comm}
-use lib.Arith.{digits-lt}
 use lib.Dec.{ltb, leb, eqb}
 use lib.ListN.{getD, set, length, length-set, length-map}
 use lib.Seq.{getD-set-same, getD-set-other}
 use borrow.Author.Tests.{ltb-false, leb-false, eqb-false, le-ltb, ne-eqb}
 use Rattle.kernels.specs.Sum.{sum}
-use Rattle.kernels.specs.declared.shape.ShapeRead.{ShapeRead}
-use Rattle.kernels.specs.declared.shape.ShapeRead.the-variants.{Known, Unknown}
 use Rattle.kernels.specs.Shape.{shapeOf, topUnder}
 use Rattle.kernels.proofs.Choices.{by-lt}
 use Rattle.kernels.proofs.Sums.{sum-ext-lt}
 use Rattle.plate.specs.Layout.{Size, padded, places}
 use Rattle.plate.specs.Word.{Pixel, wordOf, Entry}
-use Rattle.plate.specs.Refusal.{Refusal, LogEmpty, Outcome, Accepted, Refused, refuseIf, stateOf, Lent, lent, sizedAs, Ask, sizesCheck, lentCheck, countCheck, placeCheck, kernelCheck, emptyCheck, askCheck, putCheck, undoCheck}
+use Rattle.plate.specs.Refusal.{Refusal, LogEmpty, Outcome, Accepted, Refused, refuseIf, stateOf, Lent, lent, sizedAs, Ask, sizesCheck, lentCheck, countCheck, placeCheck, emptyCheck, askCheck, putCheck, undoCheck}
 use Rattle.plate.specs.Marks.{pixelMarks, total, exchanged}
 use Rattle.plate.specs.Calls.{refused, askedPlace, askedPixel, knownShape, putOver, putBy, putCall, undoOver, undoEntry, undoBy, undoCall}
 use Rattle.plate.specs.Plain.{pixelAt, gridCell}
 use Rattle.plate.specs.Notebook.{bookOf, Report, Turn, turn, turnedDown, bookPutBy, bookPut, bookUndoOf, bookUndo}
 use Rattle.plate.specs.Lists.{Plate, Step, stepOf}
-use Rattle.plate.proofs.Checks.{Lawful, Fits, passed, passes, sizes-pass, LentFor, lent-pass}
+use Rattle.plate.proofs.Checks.{Lawful, Fits, passed, passes, sizes-pass, LentFor, lent-pass, kernel-passed}
+use Rattle.plate.proofs.Extents.{place-within}
 use Rattle.plate.proofs.Words.{read-back, entry-back}
 use Rattle.plate.proofs.Laying.{length-exchanged, exchanged-cell}
 use Rattle.plate.proofs.Listing.{map-set, set-each, word-at}
@@ -121,14 +118,6 @@ pub record Asked (z : Size) (count room : ℕ) (a : Ask) : Type 0 where
   pub radius-top : a .radius ≤ topUnder (knownShape (shapeOf (a .shape))) (z .reach)
   pub has-room : count ≡ room → ⊥
 
-kernel-passed : (R : ℕ) (s : ShapeRead) (r : ℕ) (next : Outcome) → kernelCheck R s r next ≡ Accepted
-    → (r ≤ topUnder (knownShape s) R) × (next ≡ Accepted)
-unfolding kernelCheck
-kernel-passed R Unknown r next e = let z : _≡_ {A = ℕ} 0 1 = cc in absurd (omega arith)
-kernel-passed R (Known s) r next e =
-    let q = passed (ltb (topUnder s R) r) _ next e in
-    (ltb-false (topUnder s R) r (q .0), q .1)
-
 pub asked : (z : Size) (count room : ℕ) (a : Ask) → askCheck z count room a ≡ Accepted → Asked z count room a
 unfolding askCheck placeCheck
 asked z count room a e =
@@ -136,17 +125,14 @@ asked z count room a e =
     let q2 = passed (leb (z .height) (a .y)) _ _ (q1 .1) in
     let q3 = passed (ltb 4095 (a .value)) _ _ (q2 .1) in
     let q4 = kernel-passed (z .reach) (shapeOf (a .shape)) (a .radius) _ (q3 .1) in
-    let q5 = passed (eqb count room) _ _ (q4 .1) in
+    let q5 = passed (eqb count room) _ _ (q4 .2) in
     record {
       in-row = leb-false _ _ (q1 .0);
       in-column = leb-false _ _ (q2 .0);
       value-top = ltb-false _ _ (q3 .0);
-      radius-top = q4 .0;
+      radius-top = q4 .1;
       has-room = eqb-false _ _ (q5 .0);
     }
-
-place-in : (z : Size) (a : Ask) → a .x < z .width → a .y < z .height → askedPlace z a < places z
-place-in z a p q = omega (arith, digits-lt q p, mul-comm (z .height) (z .width))
 
 -- STEPS
 module _ (z : Size) (room : ℕ) (planes : List ℕ) (grid : List Pixel) (pile : List Entry) (kept : Kept z room planes grid pile) where
@@ -198,7 +184,7 @@ module _ (z : Size) (room : ℕ) (planes : List ℕ) (grid : List Pixel) (pile :
       let i = askedPlace z a in
       let old = pixelAt grid i in
       let new = askedPixel a in
-      let inside : i < places z = place-in z a (ok .in-row) (ok .in-column) in
+      let inside : i < places z = place-within (a .x) (a .y) (z .width) (z .height) (ok .in-row) (ok .in-column) in
       let fits : Fits (z .reach) new =
       record { value-fits = ok .value-top; opacity-fits = byte; radius-fits = ok .radius-top } in
       let has-room : length pile ≡ room → ⊥ = ok .has-room in

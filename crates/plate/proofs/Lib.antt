@@ -1,4 +1,8 @@
 pub mod Checks
+pub mod Extents
+pub mod Chains
+pub mod Accepted
+pub mod Fields
 pub mod Words
 pub mod Cells
 pub mod Sums

@@ -1,4 +1,7 @@
 // What a caller holds of a plate beside its buffers, and what each call answers.
+ghost use mathlib.Core.Path.{_≡_};
+ghost use Rattle.plate.specs.Refusal.{Refused};
+ghost use Rattle.plate.specs.Calls.{answerOf};
 
 // The sizes of a plate and the number of log entries in use. It goes in by value and comes back in the answer.
 pub struct State {
@@ -34,4 +37,15 @@ pub struct Answer {
     pub outcome: Outcome,
     pub marks: u32,
     pub state: State,
+}
+
+// What a refused call answers: no marks, and the state that is handed back.
+pub(crate) fn refused(why: Refusal, state: State) -> Answer
+    ensures { λ r. ⌜ r ≡ answerOf (Refused why) 0 state ⌝ }
+{
+    Answer {
+        outcome: Outcome::Refused(why),
+        marks: 0,
+        state: state,
+    }
 }

@@ -1,0 +1,76 @@
+-- Each test is the definition's, in its order; the shape and its top are the kernels'.
+use mathlib.Core.Path.{_≡_, sym, _∙_}
+use borrow.Author.Needs.{needs}
+use Rattle.kernels.specs.declared.shape.ShapeRead.the-variants.{Known}
+use Rattle.kernels.specs.Shape.{shapeOf}
+use Rattle.plate.specs.Refusal.{askCheck, placeCheck, kernelCheck, refuseIf}
+use Rattle.plate.proofs.Chains.{tests}
+use Rattle.plate.proofs.check.check_ask.Statement.{statement}
+use Rattle.plate.proofs.check.check_ask.Tie as tie
+
+-- the shape that was read
+known : (c : tie.After-known)
+    → shapeOf (c .before .before .before .before .before .before .before .before .args .shape) ≡ Known (c .known .given .0 .0)
+known c = sym (c .before .before .shape-of .ensures) ∙ c .known .given .1
+
+returns : tie.Need-returns
+unfolding askCheck placeCheck kernelCheck refuseIf
+returns c opacity = search tests
+
+returns-2 : tie.Need-returns-2
+unfolding askCheck placeCheck kernelCheck refuseIf
+returns-2 c opacity = search tests
+
+returns-3 : tie.Need-returns-3
+unfolding askCheck placeCheck kernelCheck refuseIf
+returns-3 c opacity = search tests
+
+shape-of-requires : tie.Need-shape-of-requires
+shape-of-requires c κs = search needs
+
+enum-known-known : tie.Need-enum-known-known
+enum-known-known c = search needs
+
+enum-told : tie.Need-enum-told
+enum-told c = search needs
+
+returns-4 : tie.Need-returns-4
+unfolding askCheck placeCheck kernelCheck refuseIf
+returns-4 c opacity = rw (← c .before .before .shape-of .ensures, c .enum-told .given .1) (search tests)
+
+top-under-requires : tie.Need-top-under-requires
+top-under-requires c κs = search needs
+
+returns-5 : tie.Need-returns-5
+unfolding askCheck placeCheck kernelCheck refuseIf
+returns-5 c opacity =
+    let topped = c .before in
+    rw (known (topped .before .before), ← topped .top-under .ensures) (search tests)
+
+returns-6 : tie.Need-returns-6
+unfolding askCheck placeCheck kernelCheck refuseIf
+returns-6 c opacity =
+    let topped = c .before .before .before in
+    rw (known (topped .before .before), ← topped .top-under .ensures) (search tests)
+
+returns-7 : tie.Need-returns-7
+unfolding askCheck placeCheck kernelCheck refuseIf
+returns-7 c opacity =
+    let topped = c .before .before .before in
+    rw (known (topped .before .before), ← topped .top-under .ensures) (search tests)
+
+pub check-ask-spec : {M : Type 1} → statement M
+check-ask-spec =
+    tie.close
+    (tie.spec
+    returns
+    returns-2
+    returns-3
+    shape-of-requires
+    enum-known-known
+    enum-told
+    returns-4
+    top-under-requires
+    returns-5
+    returns-6
+    returns-7)

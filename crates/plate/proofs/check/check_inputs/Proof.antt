@@ -1,0 +1,31 @@
+-- Each test is the definition's.
+use native.Mathlib.Omega.{arith}
+use Rattle.plate.specs.Refusal.{inputsCheck, refuseIf}
+use Rattle.plate.proofs.Chains.{tests}
+use Rattle.plate.proofs.Extents.{places-small}
+use Rattle.plate.proofs.check.check_inputs.Statement.{statement}
+use Rattle.plate.proofs.check.check_inputs.Tie as tie
+
+mul-places : tie.Need-mul-places
+mul-places c =
+    let a = c .before .args .state in
+    omega (arith, places-small (a .width) (a .height) (omega arith) (omega arith))
+
+returns : tie.Need-returns
+unfolding inputsCheck refuseIf
+returns c = search tests
+
+returns-2 : tie.Need-returns-2
+unfolding inputsCheck refuseIf
+returns-2 c = search tests
+
+returns-3 : tie.Need-returns-3
+unfolding inputsCheck refuseIf
+returns-3 c = search tests
+
+returns-4 : tie.Need-returns-4
+unfolding inputsCheck refuseIf
+returns-4 c = search tests
+
+pub check-inputs-spec : {M : Type 1} → statement M
+check-inputs-spec = tie.close (tie.spec mul-places returns returns-2 returns-3 returns-4)

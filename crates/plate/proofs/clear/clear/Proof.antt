@@ -1,0 +1,63 @@
+-- After i turns the first i cells are 0 and the rest are as they were; after the last turn there is no rest.
+use mathlib.Core.Path.{_≡_, refl, _∙_}
+use mathlib.Core.List.{_++_, append-nil}
+use Prim.Native.Nat.{_-_, _≤_}
+use native.Mathlib.Omega.{arith}
+use denote.Ref.{now}
+use lib.ListN.{length, drop, replicate}
+use lib.Seq.{drop-length}
+use borrow.Author.Needs.{needs}
+use borrow.Author.Fill.{fill-none, fill-more}
+use Rattle.plate.proofs.clear.clear.Statement.{statement}
+use Rattle.plate.proofs.clear.clear.Tie as tie
+
+abbrev Inv-loop : tie.InvT-loop
+Inv-loop cells₀ i₀ i-end cells i =
+    (i ≤ length cells₀) × (i-end ≡ length cells₀) × (length cells ≡ length cells₀) × (cells ≡ replicate i 0 ++ drop i cells₀)
+
+abbrev μ-loop : tie.MeasureT-loop
+μ-loop cells₀ i₀ i-end cells i = i-end - i
+
+loop-holds : tie.Need-loop-holds Inv-loop μ-loop
+loop-holds c = (search needs, refl, refl, fill-none _ 0)
+
+mul-cells : tie.Need-mul-cells Inv-loop μ-loop
+mul-cells c = search needs
+
+slice-write-cells : tie.Need-slice-write-cells Inv-loop μ-loop
+slice-write-cells c = search needs
+
+add-i : tie.Need-add-i Inv-loop μ-loop
+add-i c = search needs
+
+loop-less : tie.Need-loop-less Inv-loop μ-loop
+loop-less c = search needs
+
+loop-again : tie.Need-loop-again Inv-loop μ-loop
+loop-again c =
+    let turn = c .before .loop in
+    (omega arith, turn .inv .1, search needs, rw (turn .inv .3) (fill-more (turn .i) 0 _ (omega arith)))
+
+same-length : tie.Need-same-length Inv-loop μ-loop
+same-length c = search needs
+
+returns : tie.Need-returns Inv-loop μ-loop
+returns c =
+    let turn = c .before .loop in
+    let done : turn .i ≡ length (now (c .before .before .args .cells)) = omega arith in
+    turn .inv .3 ∙ rw (done, drop-length) (append-nil _)
+
+pub clear-spec : {M : Type 1} → statement M
+clear-spec =
+    tie.close
+    (tie.spec
+    Inv-loop
+    μ-loop
+    loop-holds
+    mul-cells
+    slice-write-cells
+    add-i
+    loop-less
+    loop-again
+    same-length
+    returns)

@@ -1,0 +1,41 @@
+-- `number` gives the shape's number, and each `or` adds a field past the bits below it.
+use Prim.Native.Nat.{_+_, _*_, _≤_}
+use native.Mathlib.Omega.{arith}
+use borrow.Author.Needs.{needs}
+use Rattle.kernels.specs.Shape.{numberOf}
+use Rattle.kernels.proofs.Shapes.{number-le}
+use Rattle.plate.proofs.Fields.{or-field}
+use Rattle.plate.proofs.word.pack.Statement.{statement}
+use Rattle.plate.proofs.word.pack.Tie as tie
+
+number-requires : tie.Need-number-requires
+number-requires c κs = search needs
+
+cast-number : tie.Need-cast-number
+cast-number c = search needs
+
+cast-result : tie.Need-cast-result
+cast-result c = search needs
+
+cast-result-2 : tie.Need-cast-result-2
+cast-result-2 c = search needs
+
+cast-result-3 : tie.Need-cast-result-3
+cast-result-3 c = search needs
+
+returns : tie.Need-returns
+returns c =
+    let p = c .before .before .before .before .args .p in
+    let low = p .value + 4096 * p .opacity in
+    let small : numberOf (p .shape) ≤ 5 = number-le (p .shape) in
+    rw (
+      c .before .before .before .number .ensures,
+      or-field 12 (p .value) (p .opacity) (omega arith) (omega arith),
+      or-field 20 low (numberOf (p .shape)) (omega arith) (omega arith),
+      or-field 24 (low + 1048576 * numberOf (p .shape)) (p .radius) (omega arith) (omega arith),
+    )
+
+pub pack-spec : {M : Type 1} → statement M
+pack-spec =
+    tie.close
+    (tie.spec number-requires cast-number cast-result cast-result-2 cast-result-3 returns)

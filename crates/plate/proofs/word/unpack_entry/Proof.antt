@@ -1,0 +1,42 @@
+-- The place's test is the definition's, and `unpack` reads the word: a mask is a remainder.
+use mathlib.Core.Path.{sym, _∙_}
+use native.Mathlib.Omega.{arith}
+use borrow.Author.Needs.{needs}
+use borrow.Author.Tests.{le-leb}
+use Rattle.kernels.proofs.Numbers.{product-le}
+use Rattle.plate.specs.Word.{Broken, readEntry}
+use Rattle.plate.proofs.Fields.{placed-entry}
+use Rattle.plate.proofs.word.unpack_entry.Statement.{statement}
+use Rattle.plate.proofs.word.unpack_entry.Tie as tie
+
+mul-if1 : tie.Need-mul-if1
+mul-if1 c = omega (arith, product-le (c .args .width) (c .args .height) 4096 4096 (omega arith) (omega arith))
+
+returns : tie.Need-returns
+unfolding readEntry
+returns c = rw (le-leb _ _ (c .if1 .taken))
+
+unpack-requires : tie.Need-unpack-requires
+unpack-requires c κs = search needs
+
+enum-known-pixel : tie.Need-enum-known-pixel
+enum-known-pixel c = search needs
+
+enum-told : tie.Need-enum-told
+enum-told c = search needs
+
+returns-2 : tie.Need-returns-2
+returns-2 c =
+    sym
+    (placed-entry _ _ Broken (c .before .before .before .if1 .left)
+    (sym (c .before .before .unpack .ensures) ∙ c .enum-told .given .1))
+
+returns-3 : tie.Need-returns-3
+returns-3 c =
+    let read = c .before .before .before in
+    sym (placed-entry _ _ _ (read .before .if1 .left) (sym (read .unpack .ensures) ∙ c .before .pixel .given .1))
+
+pub unpack-entry-spec : {M : Type 1} → statement M
+unpack-entry-spec =
+    tie.close
+    (tie.spec mul-if1 returns unpack-requires enum-known-pixel enum-told returns-2 returns-3)
