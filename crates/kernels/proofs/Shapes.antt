@@ -3,7 +3,7 @@ use mathlib.Core.Path.{_≡_, refl}
 use Prim.Native.Nat.{ℕ, _≤_}
 use lib.Dec.{lit≤}
 use lib.ListN.{List·getD-eq-default}
-use Rattle.kernels.specs.Shape.{Shape, Box, Tent, Triple, Diamond, Hexagon, Octagon, Known, Unknown, numberOf, boxesOf, topOf, shapes, shapeOf}
+use Rattle.kernels.specs.Shape.{Shape, Box, Tent, Triple, Diamond, Hexagon, Octagon, Known, Unknown, numberOf, boxesOf, topOf, countOf, shapes, shapeOf}
 
 pub number-le : (s : Shape) → numberOf s ≤ 5
 number-le Box = lit≤ tt
@@ -36,6 +36,15 @@ top-small Triple = lit≤ tt
 top-small Diamond = lit≤ tt
 top-small Hexagon = lit≤ tt
 top-small Octagon = lit≤ tt
+
+-- a kernel has 4 to 16 marks
+pub count-few : (s : Shape) → (4 ≤ countOf s) × (countOf s ≤ 16)
+count-few Box = (lit≤ tt, lit≤ tt)
+count-few Tent = (lit≤ tt, lit≤ tt)
+count-few Triple = (lit≤ tt, lit≤ tt)
+count-few Diamond = (lit≤ tt, lit≤ tt)
+count-few Hexagon = (lit≤ tt, lit≤ tt)
+count-few Octagon = (lit≤ tt, lit≤ tt)
 
 -- "shape 0 to 5"
 pub shape-past : (n : ℕ) → 6 ≤ n → shapeOf n ≡ Unknown

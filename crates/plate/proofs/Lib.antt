@@ -7,6 +7,8 @@ pub mod Words
 pub mod Cells
 pub mod Sums
 pub mod Laying
+pub mod Laid
+pub mod Grounds
 pub mod Listing
 pub mod Logs
 pub mod Kept

@@ -7,9 +7,9 @@ use native.Mathlib.Omega.{arith}
 use lib.Dec.{lit≤}
 use lib.ListN.{length}
 use Rattle.kernels.specs.declared.shape.Shape.{Shape}
-use Rattle.kernels.specs.declared.shape.Shape.the-variants.{Box, Tent, Triple, Diamond, Hexagon, Octagon}
 use Rattle.kernels.specs.Shape.{shapeOf, countOf}
 use Rattle.kernels.specs.declared.lens.Lens.{Lens as LensOf}
+use Rattle.kernels.proofs.Shapes.{count-few}
 use Rattle.plate.specs.Layout.{Size}
 use Rattle.plate.specs.Word.{Pixel, Entry}
 use Rattle.plate.specs.Refusal.{Refusal, Sizes, Lengths, LogCount, Place, Value, Shape as ShapeRefused, Radius, LogFull, LogEmpty, StoredWord, Lens, Depth, refusalNumber, Outcome, Accepted, Refused, Lent, sizedAs, Ask, ask, Inputs, inputs, askCheck, openCheck}
@@ -21,14 +21,6 @@ use Rattle.plate.proofs.Demand.{demand-3}
 use Rattle.plate.proofs.Kept.{Kept, mirror, put-agrees, undo-agrees}
 
 -- NUMBERS
-count-few : (s : Shape) → (4 ≤ countOf s) × (countOf s ≤ 16)
-count-few Box = (lit≤ tt, lit≤ tt)
-count-few Tent = (lit≤ tt, lit≤ tt)
-count-few Triple = (lit≤ tt, lit≤ tt)
-count-few Diamond = (lit≤ tt, lit≤ tt)
-count-few Hexagon = (lit≤ tt, lit≤ tt)
-count-few Octagon = (lit≤ tt, lit≤ tt)
-
 pub counts-few : (s t : Shape) → (8 ≤ countOf s + countOf t) × (countOf s + countOf t ≤ 32)
 counts-few s t =
     let a = count-few s in

@@ -2,6 +2,7 @@ pub mod Layout
 pub mod Word
 pub mod Refusal
 pub mod Marks
+pub mod Laying
 pub mod Calls
 pub mod Plain
 pub mod Notebook

@@ -1,6 +1,7 @@
 // The plate: a sharp layer's pixels as marks in fourteen planes. Knows nothing of records.
 mod check;
 mod clear;
+mod lay;
 pub mod open;
 pub mod state;
 pub mod word;

@@ -1,0 +1,31 @@
+use Rattle.plate.specs.Refusal.{sizeOf}
+use Rattle.plate.proofs.Grounds.{pixel-worth}
+use borrow.Author.Needs.{needs}
+use Rattle.plate.proofs.lay.lay_pixel.Statement.{statement}
+use Rattle.plate.proofs.lay.lay_pixel.Tie as tie
+use Rattle.plate.proofs.lay.lay_pixel.Reads as reads
+use Rattle.plate.proofs.lay.lay_pixel.Lts as lts
+use Rattle.plate.proofs.lay.lay_kernel.Reads as lay-kernel-reads
+use Rattle.plate.proofs.lay.worth_of.Reads as worth-of-reads
+
+-- src/lay.rt:266:39
+worth-of-requires : tie.Need-worth-of-requires
+worth-of-requires c κs = search needs
+
+-- src/lay.rt:266:5
+lay-kernel-requires : tie.Need-lay-kernel-requires
+lay-kernel-requires c κs = search needs
+
+-- src/lay.rt:262:1
+same-length : tie.Need-same-length
+same-length c = search needs
+
+-- src/lay.rt:262:1
+returns : tie.Need-returns
+returns c =
+    let a = c .before .before .before .before .before .before .args in
+    let h = c .before .before .before .before .before .before .pre in
+    rw (c .before .before .lay-kernel .ensures, c .before .before .before .worth-of .ensures, pixel-worth (sizeOf (a .s)) _ (a .p) (a .share) (h .1) (h .0 .radius-fits))
+
+pub lay-pixel-spec : {M : Type 1} → statement M
+lay-pixel-spec = tie.close (tie.spec worth-of-requires lay-kernel-requires same-length returns)

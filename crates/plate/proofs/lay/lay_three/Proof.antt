@@ -1,0 +1,54 @@
+use mathlib.Core.Path.{sym}
+use native.Mathlib.Omega.{arith}
+use Rattle.kernels.specs.Mark.{minus}
+use Rattle.kernels.specs.Drawing.{drawnMarks, threePieces}
+use Rattle.plate.specs.Laying.{Inside, layDrawn}
+use Rattle.plate.proofs.Laid.{times-one, drawn-append}
+use borrow.Author.Needs.{needs}
+use Rattle.plate.proofs.lay.lay_three.Statement.{statement}
+use Rattle.plate.proofs.lay.lay_three.Tie as tie
+use Rattle.plate.proofs.lay.lay_three.Reads as reads
+use Rattle.plate.proofs.lay.lay_three.Lts as lts
+use Rattle.plate.proofs.lay.lay_three_pieces.Reads as lay-three-pieces-reads
+use Rattle.plate.proofs.lay.opposite.Reads as opposite-reads
+
+-- src/lay.rt:118:9
+opposite-requires : tie.Need-opposite-requires
+opposite-requires c κs = search needs
+
+-- src/lay.rt:121:5
+lay-three-pieces-requires : tie.Need-lay-three-pieces-requires
+unfolding Inside drawnMarks threePieces
+lay-three-pieces-requires c κs = search needs
+
+-- src/lay.rt:122:5
+lay-three-pieces-requires-2 : tie.Need-lay-three-pieces-requires-2
+unfolding Inside drawnMarks threePieces
+lay-three-pieces-requires-2 c κs = search needs
+
+-- src/lay.rt:114:1
+same-length : tie.Need-same-length
+same-length c = search needs
+
+-- src/lay.rt:114:1
+returns : tie.Need-returns
+unfolding drawnMarks
+returns c =
+    let a = c .before .before .before .before .before .before .before .before .before .before .before .before .args in
+    let plus = times-one (a .w) (omega arith) (omega arith) in
+    let turned = c .before .before .before .before .before .before .before .before .before .before .opposite .ensures in
+    rw (
+      c .before .before .lay-three-pieces2 .ensures (a .w) (minus 1) 1 turned plus,
+      c .before .before .before .before .before .before .lay-three-pieces .ensures (a .w) 1 (minus 1) plus turned,
+    )
+    (sym (drawn-append _ _ _ _ _))
+
+pub lay-three-spec : {M : Type 1} → statement M
+lay-three-spec =
+    tie.close
+    (tie.spec
+    opposite-requires
+    lay-three-pieces-requires
+    lay-three-pieces-requires-2
+    same-length
+    returns)
