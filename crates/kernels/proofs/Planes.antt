@@ -176,7 +176,7 @@ slope-zero-at m (suc x) y =
     let z : y + 0 - 0 ≡ y = omega arith in
     rw (within-yes 0 (y + 0) (slope 0 0 m x (y + 0 - 0)) (omega arith), z, slope-zero-at m x y) (omega arith)
 
-slope-zero : (m : Plane) → slope 0 0 m ≡ across m
+pub slope-zero : (m : Plane) → slope 0 0 m ≡ across m
 unfolding across running
 slope-zero m = fun-ext (λ x. fun-ext (λ y. slope-zero-at m x y))
 

@@ -29,6 +29,10 @@ place-row w x y u v p q e =
 pub place-column : (w x y u v : ℕ) → x < w → u < w → y * w + x ≡ v * w + u → x ≡ u
 place-column w x y u v p q e = omega (arith, ap (λ (n : ℕ). n * w) (place-row w x y u v p q e))
 
+-- the row of a place
+pub row-within : (i w h : ℕ) → 0 < w → i < w * h → i / w < h
+row-within i w h some p = div-lt-iff-lt-mul some .1 (rw (mul-comm h w) p)
+
 pub place-lt : (w h x y : ℕ) → x < w → y < h → y * w + x < h * w
 place-lt w h x y p q = omega (arith, mul-le-mul-right w q)
 
@@ -90,7 +94,7 @@ pub marks-inside : (z : Size) (i : ℕ) (p : Pixel) → Lawful z → Fits (z .re
 marks-inside z i p law fits h =
     let R = z .reach in
     let c : i % z .width < z .width = mod-lt i (law .width-some) in
-    let l : i / z .width < z .height = div-lt-iff-lt-mul (law .width-some) .1 (rw (mul-comm (z .height) (z .width)) h) in
+    let l : i / z .width < z .height = row-within i (z .width) (z .height) (law .width-some) h in
     near-inside z (R + 3) (columnOf z i) (rowOf z i) (marks (p .shape) (p .radius) (columnOf z i) (rowOf z i))
     (omega arith)
     (omega arith)

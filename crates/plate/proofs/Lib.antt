@@ -16,3 +16,12 @@ pub mod Refilled
 pub mod Demand
 pub mod Reports
 pub mod Worked
+pub mod Wraps
+pub mod Sweeps
+pub mod Regions
+pub mod RowSums
+pub mod Tracks
+pub mod Pictures
+pub mod Lifts
+pub mod Pairs
+pub mod Views

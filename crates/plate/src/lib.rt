@@ -1,9 +1,14 @@
 // The plate: a sharp layer's pixels as marks in fourteen planes. Knows nothing of records.
 mod check;
 mod clear;
+mod exchange;
 mod lay;
 pub mod open;
+mod pass;
+pub mod put;
+pub mod show;
 pub mod state;
+pub mod undo;
 pub mod word;
 
 pub use kernels::Lens;

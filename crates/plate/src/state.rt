@@ -1,6 +1,6 @@
 // What a caller holds of a plate beside its buffers, and what each call answers.
 ghost use mathlib.Core.Path.{_≡_};
-ghost use Rattle.plate.specs.Refusal.{Refused};
+ghost use Rattle.plate.specs.Refusal.{Refused, refusalNumber, outcomeNumber};
 ghost use Rattle.plate.specs.Calls.{answerOf};
 
 // The sizes of a plate and the number of log entries in use. It goes in by value and comes back in the answer.
@@ -47,5 +47,35 @@ pub(crate) fn refused(why: Refusal, state: State) -> Answer
         outcome: Outcome::Refused(why),
         marks: 0,
         state: state,
+    }
+}
+
+// The paper's number of a refusal.
+fn refusal_number(why: Refusal) -> u32
+    ensures { λ r. ⌜ r ≡ refusalNumber why ⌝ }
+{
+    match why {
+        Refusal::Sizes => 1,
+        Refusal::Lengths => 2,
+        Refusal::LogCount => 3,
+        Refusal::Place => 4,
+        Refusal::Value => 5,
+        Refusal::Shape => 6,
+        Refusal::Radius => 7,
+        Refusal::LogFull => 8,
+        Refusal::LogEmpty => 9,
+        Refusal::StoredWord => 10,
+        Refusal::Lens => 11,
+        Refusal::Depth => 12,
+    }
+}
+
+// The paper's number of an outcome: 0 where the call is accepted.
+pub fn number(outcome: Outcome) -> u32
+    ensures { λ r. ⌜ r ≡ outcomeNumber outcome ⌝ }
+{
+    match outcome {
+        Outcome::Accepted => 0,
+        Outcome::Refused(why) => refusal_number(why),
     }
 }
