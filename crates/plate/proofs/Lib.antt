@@ -25,3 +25,5 @@ pub mod Pictures
 pub mod Lifts
 pub mod Pairs
 pub mod Views
+pub mod Scans
+pub mod Filling

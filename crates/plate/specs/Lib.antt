@@ -4,6 +4,7 @@ pub mod Refusal
 pub mod Marks
 pub mod Laying
 pub mod Calls
+pub mod Filling
 pub mod Passes
 pub mod Plain
 pub mod Notebook

@@ -2,10 +2,13 @@
 mod check;
 mod clear;
 mod exchange;
+pub mod fill;
 mod lay;
+mod layer;
 pub mod open;
 mod pass;
 pub mod put;
+mod scan;
 pub mod show;
 pub mod state;
 pub mod undo;

@@ -1,3 +1,4 @@
+-- The four corners are two columns of two marks, laid as two pieces.
 use mathlib.Core.Path.{sym}
 use native.Mathlib.Omega.{arith}
 use Rattle.kernels.specs.Mark.{minus, boxGrid, marksTo}
@@ -6,35 +7,25 @@ use Rattle.plate.proofs.Laid.{times-one, drawn-append, box-columns}
 use borrow.Author.Needs.{needs}
 use Rattle.plate.proofs.lay.lay_box.Statement.{statement}
 use Rattle.plate.proofs.lay.lay_box.Tie as tie
-use Rattle.plate.proofs.lay.lay_box.Reads as reads
-use Rattle.plate.proofs.lay.lay_box.Lts as lts
-use Rattle.plate.proofs.lay.lay_piece.Reads as lay-piece-reads
-use Rattle.plate.proofs.lay.opposite.Reads as opposite-reads
 
--- src/lay.rt:151:9
 opposite-requires : tie.Need-opposite-requires
 opposite-requires c κs = search needs
 
--- src/lay.rt:152:15
 add-far : tie.Need-add-far
 unfolding Inside boxGrid marksTo
 add-far c = omega arith
 
--- src/lay.rt:153:5
 lay-piece-requires : tie.Need-lay-piece-requires
 unfolding Inside boxGrid marksTo
 lay-piece-requires c κs = search needs
 
--- src/lay.rt:154:5
 lay-piece-requires-2 : tie.Need-lay-piece-requires-2
 unfolding Inside boxGrid marksTo
 lay-piece-requires-2 c κs = search needs
 
--- src/lay.rt:147:1
 same-length : tie.Need-same-length
 same-length c = search needs
 
--- src/lay.rt:147:1
 returns : tie.Need-returns
 returns c =
     let a = c .before .before .before .before .before .before .before .before .before .before .args in

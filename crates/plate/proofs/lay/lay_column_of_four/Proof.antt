@@ -1,57 +1,44 @@
+-- Four marks laid one after the other.
 use native.Mathlib.Omega.{arith}
 use Rattle.plate.specs.Laying.{Inside, layDrawn, columnOfFour}
 use borrow.Author.Needs.{needs}
 use Rattle.plate.proofs.lay.lay_column_of_four.Statement.{statement}
 use Rattle.plate.proofs.lay.lay_column_of_four.Tie as tie
-use Rattle.plate.proofs.lay.lay_column_of_four.Reads as reads
-use Rattle.plate.proofs.lay.lay_column_of_four.Lts as lts
-use Rattle.plate.proofs.lay.lay_mark.Reads as lay-mark-reads
 
--- src/lay.rt:140:5
 lay-mark-requires : tie.Need-lay-mark-requires
 unfolding Inside columnOfFour
 lay-mark-requires c κs = omega arith
 
--- src/lay.rt:141:35
 add-lay-mark : tie.Need-add-lay-mark
 add-lay-mark c = omega arith
 
--- src/lay.rt:141:5
 lay-mark-requires-2 : tie.Need-lay-mark-requires-2
 unfolding Inside columnOfFour
 lay-mark-requires-2 c κs = omega arith
 
--- src/lay.rt:142:39
 mul-lay-mark : tie.Need-mul-lay-mark
 mul-lay-mark c = omega arith
 
--- src/lay.rt:142:35
 add-lay-mark-2 : tie.Need-add-lay-mark-2
 add-lay-mark-2 c = omega arith
 
--- src/lay.rt:142:5
 lay-mark-requires-3 : tie.Need-lay-mark-requires-3
 unfolding Inside columnOfFour
 lay-mark-requires-3 c κs = omega arith
 
--- src/lay.rt:143:39
 mul-lay-mark-2 : tie.Need-mul-lay-mark-2
 mul-lay-mark-2 c = omega arith
 
--- src/lay.rt:143:35
 add-lay-mark-3 : tie.Need-add-lay-mark-3
 add-lay-mark-3 c = omega arith
 
--- src/lay.rt:143:5
 lay-mark-requires-4 : tie.Need-lay-mark-requires-4
 unfolding Inside columnOfFour
 lay-mark-requires-4 c κs = omega arith
 
--- src/lay.rt:136:1
 same-length : tie.Need-same-length
 same-length c = search needs
 
--- src/lay.rt:136:1
 returns : tie.Need-returns
 unfolding layDrawn columnOfFour
 returns c = λ w i j k l e f g h. rw (c .before .before .lay-mark4 .ensures, c .before .before .before .before .before .before .lay-mark3 .ensures, c .before .before .before .before .before .before .before .before .before .before .lay-mark2 .ensures, c .before .before .before .before .before .before .before .before .before .before .before .before .before .before .lay-mark .ensures, e, f, g, h)

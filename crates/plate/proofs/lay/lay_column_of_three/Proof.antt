@@ -1,44 +1,34 @@
+-- Three marks laid one after the other.
 use native.Mathlib.Omega.{arith}
 use Rattle.plate.specs.Laying.{Inside, layDrawn, columnOfThree}
 use borrow.Author.Needs.{needs}
 use Rattle.plate.proofs.lay.lay_column_of_three.Statement.{statement}
 use Rattle.plate.proofs.lay.lay_column_of_three.Tie as tie
-use Rattle.plate.proofs.lay.lay_column_of_three.Reads as reads
-use Rattle.plate.proofs.lay.lay_column_of_three.Lts as lts
-use Rattle.plate.proofs.lay.lay_mark.Reads as lay-mark-reads
 
--- src/lay.rt:130:5
 lay-mark-requires : tie.Need-lay-mark-requires
 unfolding Inside columnOfThree
 lay-mark-requires c κs = omega arith
 
--- src/lay.rt:131:35
 add-lay-mark : tie.Need-add-lay-mark
 add-lay-mark c = omega arith
 
--- src/lay.rt:131:5
 lay-mark-requires-2 : tie.Need-lay-mark-requires-2
 unfolding Inside columnOfThree
 lay-mark-requires-2 c κs = omega arith
 
--- src/lay.rt:132:39
 mul-lay-mark : tie.Need-mul-lay-mark
 mul-lay-mark c = omega arith
 
--- src/lay.rt:132:35
 add-lay-mark-2 : tie.Need-add-lay-mark-2
 add-lay-mark-2 c = omega arith
 
--- src/lay.rt:132:5
 lay-mark-requires-3 : tie.Need-lay-mark-requires-3
 unfolding Inside columnOfThree
 lay-mark-requires-3 c κs = omega arith
 
--- src/lay.rt:126:1
 same-length : tie.Need-same-length
 same-length c = search needs
 
--- src/lay.rt:126:1
 returns : tie.Need-returns
 unfolding layDrawn columnOfThree
 returns c = λ w k d e f. rw (c .before .before .lay-mark3 .ensures, c .before .before .before .before .before .before .lay-mark2 .ensures, c .before .before .before .before .before .before .before .before .before .before .lay-mark .ensures, e, f)

@@ -1,57 +1,41 @@
+-- Each kind of drawing is laid by its own function.
 use borrow.Author.Needs.{needs}
 use Rattle.plate.proofs.lay.lay_drawing.Statement.{statement}
 use Rattle.plate.proofs.lay.lay_drawing.Tie as tie
-use Rattle.plate.proofs.lay.lay_drawing.Reads as reads
-use Rattle.plate.proofs.lay.lay_drawing.Lts as lts
-use Rattle.plate.proofs.lay.lay_grid.Reads as lay-grid-reads
-use Rattle.plate.proofs.lay.lay_three.Reads as lay-three-reads
-use Rattle.plate.proofs.lay.lay_two.Reads as lay-two-reads
 
--- src/lay.rt:216:23
 enum-known-d : tie.Need-enum-known-d
 enum-known-d c = search needs
 
--- src/lay.rt:216:29
 lay-grid-requires : tie.Need-lay-grid-requires
 lay-grid-requires c κs = rw (← c .before .before .d .given .1) (c .before .before .before .before .before .pre)
 
--- src/lay.rt:217:22
 enum-known-d-2 : tie.Need-enum-known-d-2
 enum-known-d-2 c = search needs
 
--- src/lay.rt:217:28
 lay-two-requires : tie.Need-lay-two-requires
 lay-two-requires c κs = rw (← c .before .before .d2 .given .1) (c .before .before .before .before .before .pre .0)
 
--- src/lay.rt:218:24
 enum-known-d-3 : tie.Need-enum-known-d-3
 enum-known-d-3 c = search needs
 
--- src/lay.rt:218:30
 lay-three-requires : tie.Need-lay-three-requires
 lay-three-requires c κs = rw (← c .before .before .d3 .given .1) (c .before .before .before .before .before .pre .0)
 
--- src/lay.rt:211:1
 same-length : tie.Need-same-length
 same-length c = search needs
 
--- src/lay.rt:211:1
 returns : tie.Need-returns
 returns c = rw (c .before .before .lay-grid .ensures, c .before .before .before .before .before .d .given .1)
 
--- src/lay.rt:211:1
 same-length-2 : tie.Need-same-length-2
 same-length-2 c = search needs
 
--- src/lay.rt:211:1
 returns-2 : tie.Need-returns-2
 returns-2 c = rw (c .before .before .lay-two .ensures, c .before .before .before .before .before .d2 .given .1)
 
--- src/lay.rt:211:1
 same-length-3 : tie.Need-same-length-3
 same-length-3 c = search needs
 
--- src/lay.rt:211:1
 returns-3 : tie.Need-returns-3
 returns-3 c = rw (c .before .before .lay-three .ensures, c .before .before .before .before .before .d3 .given .1)
 

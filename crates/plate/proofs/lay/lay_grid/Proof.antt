@@ -1,3 +1,4 @@
+-- A grid has one, two or three boxes.
 use mathlib.Core.Path.{_≡_}
 use native.Mathlib.Omega.{arith}
 use Rattle.kernels.specs.Drawing.{drawnMarks}
@@ -5,50 +6,36 @@ use Rattle.plate.specs.Laying.{FewBoxes}
 use borrow.Author.Needs.{needs}
 use Rattle.plate.proofs.lay.lay_grid.Statement.{statement}
 use Rattle.plate.proofs.lay.lay_grid.Tie as tie
-use Rattle.plate.proofs.lay.lay_grid.Reads as reads
-use Rattle.plate.proofs.lay.lay_grid.Lts as lts
-use Rattle.plate.proofs.lay.lay_box.Reads as lay-box-reads
-use Rattle.plate.proofs.lay.lay_tent.Reads as lay-tent-reads
-use Rattle.plate.proofs.lay.lay_triple.Reads as lay-triple-reads
 
--- src/lay.rt:200:9
 lay-box-requires : tie.Need-lay-box-requires
 unfolding drawnMarks
 lay-box-requires c κs = rw (c .before .if1 .taken) at (c .before .before .before .pre .0)
 
--- src/lay.rt:201:9
 same-length : tie.Need-same-length
 same-length c = search needs
 
--- src/lay.rt:201:9
 returns : tie.Need-returns
 unfolding drawnMarks
 returns c = rw (c .before .before .lay-box .ensures, c .before .before .before .before .if1 .taken)
 
--- src/lay.rt:204:9
 lay-tent-requires : tie.Need-lay-tent-requires
 unfolding drawnMarks
 lay-tent-requires c κs = rw (c .before .if2 .taken) at (c .before .before .before .before .pre .0)
 
--- src/lay.rt:205:9
 same-length-2 : tie.Need-same-length-2
 same-length-2 c = search needs
 
--- src/lay.rt:205:9
 returns-2 : tie.Need-returns-2
 unfolding drawnMarks
 returns-2 c = rw (c .before .before .lay-tent .ensures, c .before .before .before .before .if2 .taken)
 
--- src/lay.rt:207:5
 lay-triple-requires : tie.Need-lay-triple-requires
 unfolding drawnMarks FewBoxes
 lay-triple-requires c κs = let e : c .before .before .before .before .args .b .count ≡ 3 = omega arith in rw e at (c .before .before .before .before .pre .0)
 
--- src/lay.rt:194:1
 same-length-3 : tie.Need-same-length-3
 same-length-3 c = search needs
 
--- src/lay.rt:194:1
 returns-3 : tie.Need-returns-3
 unfolding drawnMarks FewBoxes
 returns-3 c = let e : c .before .before .before .before .before .before .before .args .b .count ≡ 3 = omega arith in rw (c .before .before .lay-triple .ensures, e)

@@ -1,3 +1,4 @@
+-- The drawing from its corner is the kernel around its pixel, and lies inside the planes.
 use lib.ListN.{length}
 use Prim.Native.Nat.{ℕ, _+_, _*_, _-_, _≤_, _<_}
 use native.Mathlib.Omega.{arith}
@@ -9,11 +10,6 @@ use Rattle.plate.proofs.Grounds.{corner-in, frame-planes, kernel-laid, 
 use borrow.Author.Needs.{needs}
 use Rattle.plate.proofs.lay.lay_kernel.Statement.{statement}
 use Rattle.plate.proofs.lay.lay_kernel.Tie as tie
-use Rattle.plate.proofs.lay.lay_kernel.Reads as reads
-use Rattle.plate.proofs.lay.lay_kernel.Lts as lts
-use Rattle.kernels.proofs.mark.draw.Reads as draw-reads
-use Rattle.kernels.proofs.shape.reach.Reads as reach-reads
-use Rattle.plate.proofs.lay.lay_drawing.Reads as lay-drawing-reads
 
 reaches : (c : tie.Start) → reachOf (c .args .p .shape) (c .args .p .radius) ≤ c .args .s .reach
 reaches c = reach-under (c .args .s .reach) (c .args .p .shape) (c .args .p .radius) (c .pre .radius-fits)
@@ -28,35 +24,27 @@ corner c m h =
       frame-planes z (c .args .f) (length (c .args .planes .now)) (c .pre .framed) (c .pre .planes-are),
     )
 
--- src/lay.rt:252:28
 reach-requires : tie.Need-reach-requires
 reach-requires c κs = search needs
 
--- src/lay.rt:252:18
 sub-margin : tie.Need-sub-margin
 sub-margin c = omega (arith, reaches (c .before .before .before), c .before .reach .ensures)
 
--- src/lay.rt:256:18
 add-t11 : tie.Need-add-t11
 add-t11 c = search needs
 
--- src/lay.rt:256:17
 mul-t12 : tie.Need-mul-t12
 mul-t12 c = let s = c .before .before .before .before in omega (arith, corner s (s .args .s .reach - c .before .before .reach .result) (omega arith))
 
--- src/lay.rt:256:42
 add-t13 : tie.Need-add-t13
 add-t13 c = search needs
 
--- src/lay.rt:256:17
 add-t14 : tie.Need-add-t14
 add-t14 c = let s = c .before .before .before .before in omega (arith, corner s (s .args .s .reach - c .before .before .reach .result) (omega arith))
 
--- src/lay.rt:258:28
 draw-requires : tie.Need-draw-requires
 draw-requires c κs = search needs
 
--- src/lay.rt:258:5
 lay-drawing-requires : tie.Need-lay-drawing-requires
 lay-drawing-requires c κs =
     let a = c .before .before .before .before .before .before .args in
@@ -71,11 +59,9 @@ lay-drawing-requires c κs =
       few-boxes d (a .p .shape) (a .p .radius) _ _ (c .draw .ensures),
     )
 
--- src/lay.rt:247:1
 same-length : tie.Need-same-length
 same-length c = search needs
 
--- src/lay.rt:247:1
 returns : tie.Need-returns
 returns c =
     let a = c .before .before .before .before .before .before .before .before .before .args in

@@ -1,3 +1,4 @@
+-- A wrapping sum in light, and one seven planes on.
 use mathlib.Core.Path.{refl}
 use native.Mathlib.Omega.{arith}
 use lib.ListN.{length-set}
@@ -6,83 +7,61 @@ use Rattle.plate.specs.Laying.{layWorth}
 use borrow.Author.Needs.{needs}
 use Rattle.plate.proofs.lay.lay_mark.Statement.{statement}
 use Rattle.plate.proofs.lay.lay_mark.Tie as tie
-use Rattle.plate.proofs.lay.lay_mark.Reads as reads
-use Rattle.plate.proofs.lay.lay_mark.Lts as lts
-use Rattle.std.proofs.num.wrapping_add_u64.Reads as wrapping-add-u64-reads
 
--- src/lay.rt:54:29
 mul-light : tie.Need-mul-light
 mul-light c = search needs
 
--- src/lay.rt:54:49
 mul-light-2 : tie.Need-mul-light-2
 mul-light-2 c = search needs
 
--- src/lay.rt:54:49
 add-light : tie.Need-add-light
 add-light c = search needs
 
--- src/lay.rt:54:29
 add-light-2 : tie.Need-add-light-2
 add-light-2 c = search needs
 
--- src/lay.rt:54:17
 add-light-3 : tie.Need-add-light-3
 add-light-3 c = search needs
 
--- src/lay.rt:55:17
 mul-matte : tie.Need-mul-matte
 mul-matte c = search needs
 
--- src/lay.rt:55:17
 add-matte : tie.Need-add-matte
 add-matte c = search needs
 
--- src/lay.rt:56:48
 mul-wrapping-add-u64 : tie.Need-mul-wrapping-add-u64
 mul-wrapping-add-u64 c = search needs
 
--- src/lay.rt:56:48
 slice-read-wrapping-add-u64 : tie.Need-slice-read-wrapping-add-u64
 slice-read-wrapping-add-u64 c = search needs
 
--- src/lay.rt:56:21
 wrapping-add-u64-requires : tie.Need-wrapping-add-u64-requires
 wrapping-add-u64-requires c κs = search needs
 
--- src/lay.rt:56:5
 mul-planes : tie.Need-mul-planes
 mul-planes c = search needs
 
--- src/lay.rt:56:5
 slice-write-planes : tie.Need-slice-write-planes
 slice-write-planes c = search needs
 
--- src/lay.rt:57:48
 mul-wrapping-add-u64-2 : tie.Need-mul-wrapping-add-u64-2
 mul-wrapping-add-u64-2 c = search needs
 
--- src/lay.rt:57:48
 slice-read-wrapping-add-u64-2 : tie.Need-slice-read-wrapping-add-u64-2
 slice-read-wrapping-add-u64-2 c = simp length-set (omega arith)
 
--- src/lay.rt:57:21
 wrapping-add-u64-requires-2 : tie.Need-wrapping-add-u64-requires-2
 wrapping-add-u64-requires-2 c κs = search needs
 
--- src/lay.rt:57:5
 mul-planes-2 : tie.Need-mul-planes-2
 mul-planes-2 c = search needs
 
--- src/lay.rt:57:5
 slice-write-planes-2 : tie.Need-slice-write-planes-2
 slice-write-planes-2 c = simp length-set (omega arith)
 
--- src/lay.rt:50:1
 same-length : tie.Need-same-length
 same-length c = search needs
 
--- src/lay.rt:50:1
 returns : tie.Need-returns
 unfolding layWorth layOne
 returns c = rw (c .wrapping-add-u642 .ensures, c .before .before .wrapping-add-u64 .ensures)

@@ -1,27 +1,21 @@
+-- A mark at the start, and one a step past the last column.
 use native.Mathlib.Omega.{arith}
 use Rattle.plate.specs.Laying.{Inside, layDrawn}
 use borrow.Author.Needs.{needs}
 use Rattle.plate.proofs.lay.lay_piece.Statement.{statement}
 use Rattle.plate.proofs.lay.lay_piece.Tie as tie
-use Rattle.plate.proofs.lay.lay_piece.Reads as reads
-use Rattle.plate.proofs.lay.lay_piece.Lts as lts
-use Rattle.plate.proofs.lay.lay_mark.Reads as lay-mark-reads
 
--- src/lay.rt:75:5
 lay-mark-requires : tie.Need-lay-mark-requires
 unfolding Inside
 lay-mark-requires c κs = omega arith
 
--- src/lay.rt:76:5
 lay-mark-requires-2 : tie.Need-lay-mark-requires-2
 unfolding Inside
 lay-mark-requires-2 c κs = omega arith
 
--- src/lay.rt:61:1
 same-length : tie.Need-same-length
 same-length c = search needs
 
--- src/lay.rt:61:1
 returns : tie.Need-returns
 unfolding layDrawn
 returns c = λ w k d e f. rw (c .before .before .lay-mark2 .ensures, c .before .before .before .before .before .before .lay-mark .ensures, e, f)

@@ -1,26 +1,19 @@
+-- The worth of a mark of factor 1 times the kernel is the pixel.
 use Rattle.plate.specs.Refusal.{sizeOf}
 use Rattle.plate.proofs.Grounds.{pixel-worth}
 use borrow.Author.Needs.{needs}
 use Rattle.plate.proofs.lay.lay_pixel.Statement.{statement}
 use Rattle.plate.proofs.lay.lay_pixel.Tie as tie
-use Rattle.plate.proofs.lay.lay_pixel.Reads as reads
-use Rattle.plate.proofs.lay.lay_pixel.Lts as lts
-use Rattle.plate.proofs.lay.lay_kernel.Reads as lay-kernel-reads
-use Rattle.plate.proofs.lay.worth_of.Reads as worth-of-reads
 
--- src/lay.rt:266:39
 worth-of-requires : tie.Need-worth-of-requires
 worth-of-requires c κs = search needs
 
--- src/lay.rt:266:5
 lay-kernel-requires : tie.Need-lay-kernel-requires
 lay-kernel-requires c κs = search needs
 
--- src/lay.rt:262:1
 same-length : tie.Need-same-length
 same-length c = search needs
 
--- src/lay.rt:262:1
 returns : tie.Need-returns
 returns c =
     let a = c .before .before .before .before .before .before .args in

@@ -1,3 +1,4 @@
+-- The grid of two boxes is three columns with factors 1, -2, 1.
 use mathlib.Core.Path.{_≡_, sym, _∙_}
 use native.Mathlib.Omega.{arith}
 use Rattle.kernels.specs.Mark.{minus, boxGrid, marksTo}
@@ -6,56 +7,40 @@ use Rattle.plate.proofs.Laid.{times-one, opposite-is, added-is, drawn-a
 use borrow.Author.Needs.{needs}
 use Rattle.plate.proofs.lay.lay_tent.Statement.{statement}
 use Rattle.plate.proofs.lay.lay_tent.Tie as tie
-use Rattle.plate.proofs.lay.lay_tent.Reads as reads
-use Rattle.plate.proofs.lay.lay_tent.Lts as lts
-use Rattle.plate.proofs.lay.both.Reads as both-reads
-use Rattle.plate.proofs.lay.lay_column_of_three.Reads as lay-column-of-three-reads
-use Rattle.plate.proofs.lay.opposite.Reads as opposite-reads
 
 columns : (c : tie.Start) → ThreeInside (c .args .g) (c .args .plane) (c .args .side)
 columns c = tent-inside _ _ _ (c .pre .inside)
 
--- src/lay.rt:162:9
 both-requires : tie.Need-both-requires
 both-requires c κs = search needs
 
--- src/lay.rt:163:9
 opposite-requires : tie.Need-opposite-requires
 opposite-requires c κs = search needs
 
--- src/lay.rt:164:9
 both-requires-2 : tie.Need-both-requires-2
 both-requires-2 c κs = search needs
 
--- src/lay.rt:165:5
 lay-column-of-three-requires : tie.Need-lay-column-of-three-requires
 lay-column-of-three-requires c κs = (record { planes-are = omega arith; inside = columns (c .before .before .before .before .before) .first }, omega (arith, columns (c .before .before .before .before .before) .last-in))
 
--- src/lay.rt:166:43
 add-lay-column-of-three : tie.Need-add-lay-column-of-three
 add-lay-column-of-three c = omega (arith, columns (c .before .before .before .before .before .before .before .before .before) .last-in)
 
--- src/lay.rt:166:5
 lay-column-of-three-requires-2 : tie.Need-lay-column-of-three-requires-2
 lay-column-of-three-requires-2 c κs = (record { planes-are = omega arith; inside = columns (c .before .before .before .before .before .before .before .before .before) .second }, omega (arith, columns (c .before .before .before .before .before .before .before .before .before) .last-in))
 
--- src/lay.rt:167:47
 mul-lay-column-of-three : tie.Need-mul-lay-column-of-three
 mul-lay-column-of-three c = omega (arith, columns (c .before .before .before .before .before .before .before .before .before .before .before .before .before) .last-in)
 
--- src/lay.rt:167:43
 add-lay-column-of-three-2 : tie.Need-add-lay-column-of-three-2
 add-lay-column-of-three-2 c = omega (arith, columns (c .before .before .before .before .before .before .before .before .before .before .before .before .before) .last-in)
 
--- src/lay.rt:167:5
 lay-column-of-three-requires-3 : tie.Need-lay-column-of-three-requires-3
 lay-column-of-three-requires-3 c κs = (record { planes-are = omega arith; inside = columns (c .before .before .before .before .before .before .before .before .before .before .before .before .before) .third }, omega (arith, columns (c .before .before .before .before .before .before .before .before .before .before .before .before .before) .last-in))
 
--- src/lay.rt:158:1
 same-length : tie.Need-same-length
 same-length c = search needs
 
--- src/lay.rt:158:1
 returns : tie.Need-returns
 returns c =
     let s = c .before .before .before .before .before .before .before .before .before .before .before .before .before .before .before .before in

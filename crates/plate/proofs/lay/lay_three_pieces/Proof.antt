@@ -1,32 +1,25 @@
+-- Three pieces laid one after the other.
 use Rattle.kernels.specs.Drawing.{threePieces}
 use Rattle.plate.specs.Laying.{Inside, layDrawn}
 use borrow.Author.Needs.{needs}
 use Rattle.plate.proofs.lay.lay_three_pieces.Statement.{statement}
 use Rattle.plate.proofs.lay.lay_three_pieces.Tie as tie
-use Rattle.plate.proofs.lay.lay_three_pieces.Reads as reads
-use Rattle.plate.proofs.lay.lay_three_pieces.Lts as lts
-use Rattle.plate.proofs.lay.lay_piece.Reads as lay-piece-reads
 
--- src/lay.rt:96:5
 lay-piece-requires : tie.Need-lay-piece-requires
 unfolding Inside threePieces
 lay-piece-requires c κs = search needs
 
--- src/lay.rt:97:5
 lay-piece-requires-2 : tie.Need-lay-piece-requires-2
 unfolding Inside threePieces
 lay-piece-requires-2 c κs = search needs
 
--- src/lay.rt:98:5
 lay-piece-requires-3 : tie.Need-lay-piece-requires-3
 unfolding Inside threePieces
 lay-piece-requires-3 c κs = search needs
 
--- src/lay.rt:92:1
 same-length : tie.Need-same-length
 same-length c = search needs
 
--- src/lay.rt:92:1
 returns : tie.Need-returns
 unfolding layDrawn threePieces
 returns c = λ w k d e f. rw (c .before .before .lay-piece3 .ensures w k d e f, c .before .before .before .before .before .before .lay-piece2 .ensures w k d e f, c .before .before .before .before .before .before .before .before .before .before .lay-piece .ensures w k d e f)

@@ -1,3 +1,4 @@
+-- The grid of three boxes is four columns with factors 1, -3, 3, -1.
 use Prim.Native.Nat.{_+_, _*_, _^_, _<_}
 use mathlib.Core.Path.{_≡_, sym, _∙_}
 use native.Mathlib.Omega.{arith}
@@ -7,11 +8,6 @@ use Rattle.plate.proofs.Laid.{times-one, opposite-is, added-is, drawn-a
 use borrow.Author.Needs.{needs}
 use Rattle.plate.proofs.lay.lay_triple.Statement.{statement}
 use Rattle.plate.proofs.lay.lay_triple.Tie as tie
-use Rattle.plate.proofs.lay.lay_triple.Reads as reads
-use Rattle.plate.proofs.lay.lay_triple.Lts as lts
-use Rattle.plate.proofs.lay.both.Reads as both-reads
-use Rattle.plate.proofs.lay.lay_column_of_four.Reads as lay-column-of-four-reads
-use Rattle.plate.proofs.lay.opposite.Reads as opposite-reads
 
 columns : (c : tie.Start) → FourInside (c .args .g) (c .args .plane) (c .args .side)
 columns c = triple-inside _ _ _ (c .pre .inside)
@@ -19,75 +15,57 @@ columns c = triple-inside _ _ _ (c .pre .inside)
 room : (c : tie.Start) → 3 + 3 * c .args .side < 2 ^ 64
 room c = omega (arith, columns c .last-in)
 
--- src/lay.rt:175:9
 opposite-requires : tie.Need-opposite-requires
 opposite-requires c κs = search needs
 
--- src/lay.rt:176:22
 both-requires : tie.Need-both-requires
 both-requires c κs = search needs
 
--- src/lay.rt:176:9
 both-requires-2 : tie.Need-both-requires-2
 both-requires-2 c κs = search needs
 
--- src/lay.rt:177:9
 opposite-requires-2 : tie.Need-opposite-requires-2
 opposite-requires-2 c κs = search needs
 
--- src/lay.rt:178:21
 both-requires-3 : tie.Need-both-requires-3
 both-requires-3 c κs = search needs
 
--- src/lay.rt:178:9
 both-requires-4 : tie.Need-both-requires-4
 both-requires-4 c κs = search needs
 
--- src/lay.rt:179:9
 opposite-requires-3 : tie.Need-opposite-requires-3
 opposite-requires-3 c κs = search needs
 
--- src/lay.rt:180:5
 lay-column-of-four-requires : tie.Need-lay-column-of-four-requires
 lay-column-of-four-requires c κs = (record { planes-are = omega arith; inside = columns (c .before .before .before .before .before .before .before .before .before) .first }, omega (arith, columns (c .before .before .before .before .before .before .before .before .before) .last-in))
 
--- src/lay.rt:181:42
 add-lay-column-of-four : tie.Need-add-lay-column-of-four
 add-lay-column-of-four c = omega (arith, room (c .before .before .before .before .before .before .before .before .before .before .before .before .before))
 
--- src/lay.rt:181:5
 lay-column-of-four-requires-2 : tie.Need-lay-column-of-four-requires-2
 lay-column-of-four-requires-2 c κs = (record { planes-are = omega arith; inside = columns (c .before .before .before .before .before .before .before .before .before .before .before .before .before) .second }, omega (arith, columns (c .before .before .before .before .before .before .before .before .before .before .before .before .before) .last-in))
 
--- src/lay.rt:182:46
 mul-lay-column-of-four : tie.Need-mul-lay-column-of-four
 mul-lay-column-of-four c = omega (arith, room (c .before .before .before .before .before .before .before .before .before .before .before .before .before .before .before .before .before))
 
--- src/lay.rt:182:42
 add-lay-column-of-four-2 : tie.Need-add-lay-column-of-four-2
 add-lay-column-of-four-2 c = omega (arith, room (c .before .before .before .before .before .before .before .before .before .before .before .before .before .before .before .before .before))
 
--- src/lay.rt:182:5
 lay-column-of-four-requires-3 : tie.Need-lay-column-of-four-requires-3
 lay-column-of-four-requires-3 c κs = (record { planes-are = omega (arith, c .before .before .before .before .before .before .before .before .before .before .before .before .before .before .before .before .before .pre .planes-are, c .before .before .before .before .before .before .before .lay-column-of-four .kept, c .before .before .before .lay-column-of-four2 .kept); inside = columns (c .before .before .before .before .before .before .before .before .before .before .before .before .before .before .before .before .before) .third }, omega (arith, columns (c .before .before .before .before .before .before .before .before .before .before .before .before .before .before .before .before .before) .last-in, c .before .before .before .before .before .before .before .before .before .before .before .before .before .before .before .before .before .pre .planes-are, c .before .before .before .before .before .before .before .lay-column-of-four .kept, c .before .before .before .lay-column-of-four2 .kept))
 
--- src/lay.rt:183:46
 mul-lay-column-of-four-2 : tie.Need-mul-lay-column-of-four-2
 mul-lay-column-of-four-2 c = omega (arith, room (c .before .before .before .before .before .before .before .before .before .before .before .before .before .before .before .before .before .before .before .before .before))
 
--- src/lay.rt:183:42
 add-lay-column-of-four-3 : tie.Need-add-lay-column-of-four-3
 add-lay-column-of-four-3 c = omega (arith, room (c .before .before .before .before .before .before .before .before .before .before .before .before .before .before .before .before .before .before .before .before .before))
 
--- src/lay.rt:183:5
 lay-column-of-four-requires-4 : tie.Need-lay-column-of-four-requires-4
 lay-column-of-four-requires-4 c κs = (record { planes-are = omega (arith, c .before .before .before .before .before .before .before .before .before .before .before .before .before .before .before .before .before .before .before .before .before .pre .planes-are, c .before .before .before .before .before .before .before .before .before .before .before .lay-column-of-four .kept, c .before .before .before .before .before .before .before .lay-column-of-four2 .kept, c .before .before .before .lay-column-of-four3 .kept); inside = columns (c .before .before .before .before .before .before .before .before .before .before .before .before .before .before .before .before .before .before .before .before .before) .fourth }, omega (arith, columns (c .before .before .before .before .before .before .before .before .before .before .before .before .before .before .before .before .before .before .before .before .before) .last-in, c .before .before .before .before .before .before .before .before .before .before .before .before .before .before .before .before .before .before .before .before .before .pre .planes-are, c .before .before .before .before .before .before .before .before .before .before .before .lay-column-of-four .kept, c .before .before .before .before .before .before .before .lay-column-of-four2 .kept, c .before .before .before .lay-column-of-four3 .kept))
 
--- src/lay.rt:171:1
 same-length : tie.Need-same-length
 same-length c = search needs
 
--- src/lay.rt:171:1
 returns : tie.Need-returns
 returns c =
     let s = c .before .before .before .before .before .before .before .before .before .before .before .before .before .before .before .before .before .before .before .before .before .before .before .before in

@@ -1,3 +1,4 @@
+-- The top line counts plus, the bottom line minus.
 use mathlib.Core.Path.{sym}
 use native.Mathlib.Omega.{arith}
 use Rattle.kernels.specs.Mark.{minus}
@@ -7,30 +8,21 @@ use Rattle.plate.proofs.Laid.{times-one, drawn-append}
 use borrow.Author.Needs.{needs}
 use Rattle.plate.proofs.lay.lay_two.Statement.{statement}
 use Rattle.plate.proofs.lay.lay_two.Tie as tie
-use Rattle.plate.proofs.lay.lay_two.Reads as reads
-use Rattle.plate.proofs.lay.lay_two.Lts as lts
-use Rattle.plate.proofs.lay.lay_two_pieces.Reads as lay-two-pieces-reads
-use Rattle.plate.proofs.lay.opposite.Reads as opposite-reads
 
--- src/lay.rt:106:9
 opposite-requires : tie.Need-opposite-requires
 opposite-requires c κs = search needs
 
--- src/lay.rt:109:5
 lay-two-pieces-requires : tie.Need-lay-two-pieces-requires
 unfolding Inside drawnMarks twoPieces
 lay-two-pieces-requires c κs = search needs
 
--- src/lay.rt:110:5
 lay-two-pieces-requires-2 : tie.Need-lay-two-pieces-requires-2
 unfolding Inside drawnMarks twoPieces
 lay-two-pieces-requires-2 c κs = search needs
 
--- src/lay.rt:102:1
 same-length : tie.Need-same-length
 same-length c = search needs
 
--- src/lay.rt:102:1
 returns : tie.Need-returns
 unfolding drawnMarks
 returns c =

@@ -1,27 +1,21 @@
+-- Two pieces laid one after the other.
 use Rattle.kernels.specs.Drawing.{twoPieces}
 use Rattle.plate.specs.Laying.{Inside, layDrawn}
 use borrow.Author.Needs.{needs}
 use Rattle.plate.proofs.lay.lay_two_pieces.Statement.{statement}
 use Rattle.plate.proofs.lay.lay_two_pieces.Tie as tie
-use Rattle.plate.proofs.lay.lay_two_pieces.Reads as reads
-use Rattle.plate.proofs.lay.lay_two_pieces.Lts as lts
-use Rattle.plate.proofs.lay.lay_piece.Reads as lay-piece-reads
 
--- src/lay.rt:87:5
 lay-piece-requires : tie.Need-lay-piece-requires
 unfolding Inside twoPieces
 lay-piece-requires c κs = search needs
 
--- src/lay.rt:88:5
 lay-piece-requires-2 : tie.Need-lay-piece-requires-2
 unfolding Inside twoPieces
 lay-piece-requires-2 c κs = search needs
 
--- src/lay.rt:83:1
 same-length : tie.Need-same-length
 same-length c = search needs
 
--- src/lay.rt:83:1
 returns : tie.Need-returns
 unfolding layDrawn twoPieces
 returns c = λ w k d e f. rw (c .before .before .lay-piece2 .ensures w k d e f, c .before .before .before .before .before .before .lay-piece .ensures w k d e f)

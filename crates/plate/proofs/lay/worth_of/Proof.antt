@@ -1,32 +1,26 @@
+-- A value, an opacity and a share multiply to less than 2^64.
 use Prim.Native.Nat.{_*_}
 use native.Mathlib.Omega.{arith}
 use Rattle.kernels.proofs.Numbers.{product-le}
 use borrow.Author.Needs.{needs}
 use Rattle.plate.proofs.lay.worth_of.Statement.{statement}
 use Rattle.plate.proofs.lay.worth_of.Tie as tie
-use Rattle.plate.proofs.lay.worth_of.Reads as reads
-use Rattle.plate.proofs.lay.worth_of.Lts as lts
 
--- src/lay.rt:239:17
 cast-matte : tie.Need-cast-matte
 cast-matte c = search needs
 
--- src/lay.rt:239:17
 mul-matte : tie.Need-mul-matte
 mul-matte c = omega (arith, product-le (c .before .args .p .opacity) (c .before .args .share) 255 4294967295 (omega arith) (omega arith))
 
--- src/lay.rt:241:16
 cast-t4 : tie.Need-cast-t4
 cast-t4 c = search needs
 
--- src/lay.rt:241:16
 mul-t5 : tie.Need-mul-t5
 mul-t5 c =
     let a = c .before .before .args in
     let m = product-le (a .p .opacity) (a .share) 255 4294967295 (omega arith) (omega arith) in
     omega (arith, product-le (a .p .value) (a .p .opacity * a .share) 65535 (255 * 4294967295) (omega arith) m)
 
--- src/lay.rt:236:1
 returns : tie.Need-returns
 returns c = search needs
 

@@ -1,0 +1,80 @@
+-- A lawful lens gives a lawful depth a radius up to the top; the table gives its share, `lay_pixel` lays, and `pack` packs.
+use mathlib.Core.Path.{_≡_, sym, _∙_}
+use mathlib.Core.Logic.{⊎-elim}
+use Prim.Native.Nat.{min}
+use native.Mathlib.Omega.{arith}
+use borrow.Author.Needs.{needs}
+use Rattle.kernels.specs.Lens.{blur}
+use Rattle.kernels.proofs.Lenses.{in-pixels}
+use Rattle.kernels.proofs.Shares.{table-share}
+use Rattle.plate.specs.Refusal.{sizeOf}
+use Rattle.plate.proofs.Filling.{radius-is}
+use Rattle.plate.proofs.layer.fill_pixel.Statement.{statement}
+use Rattle.plate.proofs.layer.fill_pixel.Tie as tie
+
+-- the radius of the pixel
+radius : (c : tie.After-known-told)
+    → let a = c .before .before .before .before .before .args in
+    c .before .radius .given .0 .0 ≡ min (a .layer .top) (blur (a .layer .lens) (a .depth))
+radius c =
+    let told = c .before in
+    let start = told .before .before .before .before in
+    let a = start .args in
+    radius-is (a .layer .lens) (a .layer .top) (a .depth) _ _ (start .pre .0 .lens-lawful) (start .pre .5) (told .before .before .radius-from .ensures) (told .radius .given .1)
+
+radius-from-requires : tie.Need-radius-from-requires
+radius-from-requires c κs = search needs
+
+enum-known-radius : tie.Need-enum-known-radius
+enum-known-radius c = search needs
+
+returns : tie.Need-returns
+returns c =
+    let found = c .before in
+    let start = found .before .before in
+    let a = start .args in
+    let e = found .radius-from .ensures ∙ in-pixels (a .layer .lens) (a .layer .top) (a .depth) (start .pre .0 .lens-lawful) (start .pre .5) in
+    absurd (⊎-elim (λ q. omega arith) (λ q. omega arith) (rw e at (c .match .keys2)))
+
+share-in-requires : tie.Need-share-in-requires
+share-in-requires c κs = search needs
+
+lay-pixel-requires : tie.Need-lay-pixel-requires
+lay-pixel-requires c κs =
+    let known = c .before .before in
+    let start = known .before .before .before .before .before in
+    let h = start .pre in
+    let shape = start .args .layer .shape in (
+      record {
+        framed = h .0 .framed;
+        planes-are = h .0 .planes-are;
+        column-in = h .2;
+        row-in = h .3;
+        radius-fits = omega (arith, radius known, h .0 .top-is);
+      },
+      c .before .share-in .ensures ∙ rw (h .1) (table-share shape _),
+    )
+
+pack-requires : tie.Need-pack-requires
+pack-requires c κs = search needs
+
+same-length : tie.Need-same-length
+same-length c = search needs
+
+returns-2 : tie.Need-returns-2
+returns-2 c =
+    let laid = c .before .before .before in
+    (rw (laid .lay-pixel .ensures, radius (laid .before .before .before)), rw (c .pack .ensures, radius (laid .before .before .before)))
+
+pub fill-pixel-spec : {M : Type 1} → statement M
+fill-pixel-spec =
+    tie.close
+    (tie.spec
+    radius-from-requires
+    enum-known-radius
+    returns
+    share-in-requires
+    lay-pixel-requires
+    pack-requires
+    same-length
+    returns-2)
