@@ -2,7 +2,7 @@
 use mathlib.Core.Path.{_≡_, refl, ap, sym, _∙_}
 use mathlib.Core.Bool.{true, false, not}
 use mathlib.Core.List.{List, map}
-use Prim.Native.Nat.{ℕ, _+_, _*_, _≤_, _<_, min}
+use Prim.Native.Nat.{ℕ, _+_, _≤_, _<_, min}
 use native.Mathlib.Omega.{arith}
 use native.Mathlib.Numerals.{add-one}
 use lib.ListN.{getD, set, length, length-map}
@@ -17,14 +17,13 @@ use Rattle.kernels.specs.declared.lens.Radius.{Radius}
 use Rattle.kernels.specs.declared.lens.Radius.the-variants.{Pixels}
 use Rattle.kernels.specs.Lens.{lawfulLens, blur, radiusFrom}
 use Rattle.kernels.proofs.Lenses.{in-pixels}
-use Rattle.plate.specs.Layout.{Size, places}
-use Rattle.plate.specs.Word.{Pixel, empty, wordOf}
-use Rattle.plate.specs.Refusal.{State, Refusal, Outcome, Accepted, Refused, sizeOf, stateOf, Lent, sizedAs, Inputs, anyAbove, sizesCheck, lentCheck, countCheck, inputsCheck, shapeCheck, lensCheck, depthsCheck, layerCheck}
+use Rattle.plate.specs.Word.{empty, wordOf}
+use Rattle.plate.specs.Refusal.{State, Refusal, Outcome, Accepted, Refused, sizeOf, stateOf, Lent, sizedAs, Inputs, anyAbove, sizesCheck, lentCheck, countCheck, inputsCheck, shapeCheck, layerCheck}
 use Rattle.plate.specs.Marks.{pixelMarks, layAll, layGrid}
-use Rattle.plate.specs.Calls.{left, answerOf, refused, zeros, listTo, knownShape, filled, fillBy, fillCall}
-use Rattle.plate.specs.Filling.{Layer, layerOf, LayerRead, Lawful, Unlawful, readBy, pixelOf, pixelFrom, Ready, FilledTo, Replaced}
+use Rattle.plate.specs.Calls.{left, answerOf, refused, listTo, knownShape, filled, fillBy, fillCall}
+use Rattle.plate.specs.Filling.{Layer, layerOf, Lawful, Unlawful, readBy, pixelOf, pixelFrom, Ready, FilledTo, Replaced}
 use Rattle.plate.proofs.Checks.{passed}
-use Rattle.plate.proofs.Accepted.{FillAccepted, fill-accepted}
+use Rattle.plate.proofs.Accepted.{fill-accepted}
 use Rattle.plate.proofs.Chains.{fill-before}
 use Rattle.plate.proofs.Listing.{length-listTo, getD-listTo, word-at}
 use Rattle.plate.proofs.Refilled.{none-above}
@@ -109,7 +108,8 @@ firstCheck s f l =
     (inputsCheck (sizeOf s) (length (f .values)) (length (f .opacities)) (length (f .depths))
     (countCheck (s .count) (length (l .log)) Accepted)))
 
-pub fill-refused : (s : State) (o : Lens) (k : ℕ) (f : Inputs) (l : Lent) (why : Refusal) → firstCheck s f l ≡ Refused why
+pub fill-refused : (s : State) (o : Lens) (k : ℕ) (f : Inputs) (l : Lent) (why : Refusal)
+    → firstCheck s f l ≡ Refused why
     → refused why s l ≡ fillCall s o k f l
 unfolding fillCall fillBy
 fill-refused s o k f l why e = rw (fill-before s o k f (sizedAs l), e)
@@ -119,7 +119,9 @@ module _ (s : State) (o : Lens) (k : ℕ) (f : Inputs) (l : Lent) (first : first
       → Unlawful why ≡ readBy (layerCheck o k f) (layerOf s o (knownShape (shapeOf k)))
       → refused why s l ≡ fillCall s o k f l
   unfolding fillCall fillBy
-  layer-refused why e = rw (fill-before s o k f (sizedAs l), first, read-unlawful (layerCheck o k f) (layerOf s o (knownShape (shapeOf k))) why e)
+  layer-refused why e =
+      let check = read-unlawful (layerCheck o k f) (layerOf s o (knownShape (shapeOf k))) why e in
+      rw (fill-before s o k f (sizedAs l), first, check)
 
   -- an accepted layer
   module _ (j : Layer) (read : Lawful j ≡ readBy (layerCheck o k f) (layerOf s o (knownShape (shapeOf k)))) where
@@ -144,9 +146,9 @@ module _ (s : State) (o : Lens) (k : ℕ) (f : Inputs) (l : Lent) (first : first
           depths-in = none-above 10000000 (f .depths) (p .2);
         })
 
-    pub layer-filled : (planes pixels log : List ℕ) → Replaced j f (length (l .planes)) planes pixels → log ≡ zeros (length (l .log))
+    pub layer-filled : (planes pixels log : List ℕ) → Replaced j f (length (l .planes)) (length (l .log)) planes pixels log
         → left (answerOf Accepted 0 (stateOf (sizeOf s) 0)) planes pixels log ≡ fillCall s o k f l
     unfolding fillCall fillBy
-    layer-filled planes pixels log made cleared =
+    layer-filled planes pixels log made =
         let e = read-lawful (layerCheck o k f) (layerOf s o (knownShape (shapeOf k))) j read in
-        rw (made .laid, made .stored, cleared, e .1, fill-before s o k f (sizedAs l), first, e .0)
+        rw (made .laid, made .stored, made .emptied, e .1, fill-before s o k f (sizedAs l), first, e .0)

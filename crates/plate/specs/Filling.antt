@@ -8,7 +8,7 @@ use Rattle.kernels.specs.declared.shape.Shape.{Shape as ShapeOf}
 use Rattle.kernels.specs.Shape.{topUnder}
 use Rattle.kernels.specs.declared.lens.Lens.{Lens as LensOf}
 use Rattle.kernels.specs.Lens.{lawfulLens, blur}
-use Rattle.plate.specs.Layout.{Size, padded, places}
+use Rattle.plate.specs.Layout.{padded, places}
 use Rattle.plate.specs.Word.{Pixel, wordOf}
 use Rattle.plate.specs.Refusal.{State, Outcome, Accepted, Refused, sizeOf, Inputs}
 use Rattle.plate.specs.Marks.{layGrid}
@@ -57,7 +57,8 @@ pub record FilledTo (j : Layer) (f : Inputs) (cells planes pixels : List ℕ) (n
   pub laid : planes ≡ layGrid (sizeOf (j .state)) (pixelOf j f) cells n
   pub stored : (i : ℕ) → i < n → getD pixels i 0 ≡ wordOf (pixelOf j f i)
 
--- all pixels of a layer, on n cells that were 0
-pub record Replaced (j : Layer) (f : Inputs) (n : ℕ) (planes pixels : List ℕ) : Type 0 where
+-- all pixels of a layer on n cells that were 0, and a log of m entries emptied
+pub record Replaced (j : Layer) (f : Inputs) (n m : ℕ) (planes pixels log : List ℕ) : Type 0 where
   pub laid : planes ≡ layGrid (sizeOf (j .state)) (pixelOf j f) (zeros n) (places (sizeOf (j .state)))
   pub stored : pixels ≡ map wordOf (listTo (pixelOf j f) (places (sizeOf (j .state))))
+  pub emptied : log ≡ zeros m

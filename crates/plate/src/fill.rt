@@ -1,6 +1,5 @@
 // Filling a plate: all its pixels at once, from values, opacities and depths.
 use crate::check::check_fill;
-use crate::clear::clear;
 use crate::layer::LayerRead;
 use crate::layer::read_layer;
 use crate::layer::replace;
@@ -10,8 +9,24 @@ use crate::state::State;
 use crate::state::refused;
 use kernels::Lens;
 ghost use mathlib.Core.Path.{_≡_};
-ghost use Rattle.plate.specs.Refusal.{lent, inputs};
-ghost use Rattle.plate.specs.Calls.{left, fillCall};
+ghost use Rattle.plate.specs.Refusal.{Accepted, sizeOf, stateOf, lent, inputs};
+ghost use Rattle.plate.specs.Calls.{left, answerOf, fillCall};
+
+// What an accepted fill answers: no marks, and the state with an empty log.
+fn accepted(state: State) -> Answer
+    ensures { λ r. ⌜ r ≡ answerOf Accepted 0 (stateOf (sizeOf state) 0) ⌝ }
+{
+    Answer {
+        outcome: Outcome::Accepted,
+        marks: 0,
+        state: State {
+            width: state.width,
+            height: state.height,
+            reach: state.reach,
+            count: 0,
+        },
+    }
+}
 
 // Replaces all pixels and empties the log. A refused fill touches nothing and hands the state back.
 pub fn fill(
@@ -46,16 +61,6 @@ pub fn fill(
             return refused(why, state);
         }
     };
-    replace(planes, pixels, layer, values, opacities, depths);
-    clear(log);
-    Answer {
-        outcome: Outcome::Accepted,
-        marks: 0,
-        state: State {
-            width: state.width,
-            height: state.height,
-            reach: state.reach,
-            count: 0,
-        },
-    }
+    replace(planes, pixels, log, layer, values, opacities, depths);
+    accepted(state)
 }

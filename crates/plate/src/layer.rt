@@ -23,7 +23,7 @@ ghost use Rattle.plate.specs.Layout.{places};
 ghost use Rattle.plate.specs.Word.{wordOf};
 ghost use Rattle.plate.specs.Refusal.{sizeOf, inputs, layerCheck};
 ghost use Rattle.plate.specs.Marks.{pixelMarks, layAll};
-ghost use Rattle.plate.specs.Calls.{knownShape};
+ghost use Rattle.plate.specs.Calls.{zeros, knownShape};
 ghost use Rattle.plate.specs.Filling.{layerOf, readBy, pixelFrom, Layable, Ready, FilledTo, Replaced};
 
 // What all pixels of a fill share, made once: the plate and its frame, the lens, the shape and its largest radius there.
@@ -144,7 +144,7 @@ fn fill_row(
     }
 }
 
-// All rows of a plate whose planes hold no marks yet.
+// All pixels, row after row.
 fn fill_rows(
     planes: &mut [u64],
     pixels: &mut [u64],
@@ -163,19 +163,29 @@ fn fill_rows(
     }
 }
 
-// Replaces every mark and every pixel. The table of shares is copied once for all pixels.
+// Sets every cell of the planes and every log entry to 0.
+fn clear_both(planes: &mut [u64], log: &mut [u64])
+    ensures { λ _. ⌜ now (planes .exit) ≡ zeros (length (now (planes .entry))) ⌝ }
+    ensures { λ _. ⌜ now (log .exit) ≡ zeros (length (now (log .entry))) ⌝ }
+{
+    clear(planes);
+    clear(log);
+}
+
+// Replaces every mark and every pixel, and empties the log. The table of shares is copied once for all pixels.
 pub(crate) fn replace(
     planes: &mut [u64],
     pixels: &mut [u64],
+    log: &mut [u64],
     layer: Layer,
     values: &[u16],
     opacities: &[u8],
     depths: &[u32],
 )
     requires { ⌜ Ready layer (length (now planes)) (length (now pixels)) (inputs (now values) (now opacities) (now depths)) ⌝ }
-    ensures { λ _. ⌜ Replaced layer (inputs (now (values .entry)) (now (opacities .entry)) (now (depths .entry))) (length (now (planes .entry))) (now (planes .exit)) (now (pixels .exit)) ⌝ }
+    ensures { λ _. ⌜ Replaced layer (inputs (now (values .entry)) (now (opacities .entry)) (now (depths .entry))) (length (now (planes .entry))) (length (now (log .entry))) (now (planes .exit)) (now (pixels .exit)) (now (log .exit)) ⌝ }
 {
-    clear(planes);
+    clear_both(planes, log);
     let table = kernels::share::shares();
     fill_rows(planes, pixels, &table, layer, values, opacities, depths);
 }

@@ -1,10 +1,9 @@
 -- A refused fill hands on what its checks found; an accepted one leaves the layer's marks and words, and an empty log.
 use mathlib.Core.Path.{_≡_, sym, _∙_}
-use lib.ListN.{length}
+use borrow.Author.Needs.{needs}
 use Rattle.plate.specs.Refusal.{Accepted, Lent, lent, Inputs, inputs}
 use Rattle.plate.proofs.Accepted.{fill-accepted}
 use Rattle.plate.proofs.Filling.{firstCheck, fill-refused, layer-refused, layer-ready, layer-filled}
-use borrow.Author.Needs.{needs}
 use Rattle.plate.proofs.fill.fill.Statement.{statement}
 use Rattle.plate.proofs.fill.fill.Tie as tie
 
@@ -63,12 +62,13 @@ returns-2 c =
 
 replace-requires : tie.Need-replace-requires
 replace-requires c κs =
-    let found = c .before .before .before in
+    let found = c .before .before .before .before in
     let read = found .before .before in
-    layer-ready _ _ _ _ (held (entry (read .before))) (first (read .before)) _ (sym (found .read .given .1) ∙ read .read-layer .ensures _)
+    layer-ready _ _ _ _ (held (entry (read .before))) (first (read .before)) _
+    (sym (found .read .given .1) ∙ read .read-layer .ensures _)
 
-clear-requires : tie.Need-clear-requires
-clear-requires c κs = search needs
+accepted-requires : tie.Need-accepted-requires
+accepted-requires c κs = search needs
 
 same-length : tie.Need-same-length
 same-length c = search needs
@@ -81,13 +81,12 @@ same-length-3 c = search needs
 
 returns-3 : tie.Need-returns-3
 returns-3 c =
-    let cleared = c .before .before in
-    let made = cleared .before .before .before .before .before .before in
-    let found = made .before .before .before .before in
+    let made = c .before .before .before .before .before .before .before in
+    let found = made .before .before .before .before .before in
     let read = found .before .before in
-    layer-filled _ _ _ _ _ (first (read .before)) _ (sym (found .read .given .1) ∙ read .read-layer .ensures _) _ _ _
-    (made .replace .ensures)
-    (cleared .clear .ensures)
+    rw (c .accepted .ensures)
+    (layer-filled _ _ _ _ _ (first (read .before)) _ (sym (found .read .given .1) ∙ read .read-layer .ensures _) _ _ _
+    (made .replace .ensures))
 
 pub fill-spec : {M : Type 1} → statement M
 fill-spec =
@@ -104,7 +103,7 @@ fill-spec =
     refused-requires-2
     returns-2
     replace-requires
-    clear-requires
+    accepted-requires
     same-length
     same-length-2
     same-length-3

@@ -1,5 +1,5 @@
 -- A lawful lens gives a lawful depth a radius up to the top; the table gives its share, `lay_pixel` lays, and `pack` packs.
-use mathlib.Core.Path.{_≡_, sym, _∙_}
+use mathlib.Core.Path.{_≡_, _∙_}
 use mathlib.Core.Logic.{⊎-elim}
 use Prim.Native.Nat.{min}
 use native.Mathlib.Omega.{arith}
@@ -7,7 +7,6 @@ use borrow.Author.Needs.{needs}
 use Rattle.kernels.specs.Lens.{blur}
 use Rattle.kernels.proofs.Lenses.{in-pixels}
 use Rattle.kernels.proofs.Shares.{table-share}
-use Rattle.plate.specs.Refusal.{sizeOf}
 use Rattle.plate.proofs.Filling.{radius-is}
 use Rattle.plate.proofs.layer.fill_pixel.Statement.{statement}
 use Rattle.plate.proofs.layer.fill_pixel.Tie as tie
@@ -20,7 +19,9 @@ radius c =
     let told = c .before in
     let start = told .before .before .before .before in
     let a = start .args in
-    radius-is (a .layer .lens) (a .layer .top) (a .depth) _ _ (start .pre .0 .lens-lawful) (start .pre .5) (told .before .before .radius-from .ensures) (told .radius .given .1)
+    radius-is (a .layer .lens) (a .layer .top) (a .depth) _ _ (start .pre .0 .lens-lawful) (start .pre .5)
+    (told .before .before .radius-from .ensures)
+    (told .radius .given .1)
 
 radius-from-requires : tie.Need-radius-from-requires
 radius-from-requires c κs = search needs
@@ -33,8 +34,8 @@ returns c =
     let found = c .before in
     let start = found .before .before in
     let a = start .args in
-    let e = found .radius-from .ensures ∙ in-pixels (a .layer .lens) (a .layer .top) (a .depth) (start .pre .0 .lens-lawful) (start .pre .5) in
-    absurd (⊎-elim (λ q. omega arith) (λ q. omega arith) (rw e at (c .match .keys2)))
+    let some = in-pixels (a .layer .lens) (a .layer .top) (a .depth) (start .pre .0 .lens-lawful) (start .pre .5) in
+    absurd (⊎-elim (λ q. omega arith) (λ q. omega arith) (rw (found .radius-from .ensures ∙ some) at (c .match .keys2)))
 
 share-in-requires : tie.Need-share-in-requires
 share-in-requires c κs = search needs
@@ -64,7 +65,8 @@ same-length c = search needs
 returns-2 : tie.Need-returns-2
 returns-2 c =
     let laid = c .before .before .before in
-    (rw (laid .lay-pixel .ensures, radius (laid .before .before .before)), rw (c .pack .ensures, radius (laid .before .before .before)))
+    let r = radius (laid .before .before .before) in
+    (rw (laid .lay-pixel .ensures, r), rw (c .pack .ensures, r))
 
 pub fill-pixel-spec : {M : Type 1} → statement M
 fill-pixel-spec =

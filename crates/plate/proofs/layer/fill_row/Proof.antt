@@ -1,5 +1,5 @@
 -- A turn lays and stores the pixel at its place, which is the next one; after the last turn the row is done.
-use mathlib.Core.Path.{_≡_, refl, _∙_}
+use mathlib.Core.Path.{_≡_, refl}
 use mathlib.Core.List.{List}
 use Prim.Native.Nat.{ℕ, _+_, _*_, _-_, _≤_, _<_}
 use native.Mathlib.Omega.{arith}
@@ -35,19 +35,18 @@ inside : (c : tie.In-loop Inv-loop μ-loop)
     × (place < length (a .pixels .now))
 inside c =
     let start = entry (c .before) in
+    let z = start .args .layer .state in
     omega (
       arith,
-      place-within (c .before .loop .x) (start .args .y) (start .args .layer .state .width) (start .args .layer .state .height)
-          (c .loop-test .taken)
-          (start .pre .2),
+      place-within (c .before .loop .x) (start .args .y) (z .width) (z .height) (c .loop-test .taken) (start .pre .2),
       start .pre .0,
     )
 
 mul-start : tie.Need-mul-start Inv-loop μ-loop
 mul-start c =
     let start = c .before .before .before .before .before in
-    let a = start .args in
-    omega (arith, row-within (a .y) (a .layer .state .width) (a .layer .state .height) (start .pre .2), start .pre .0 .pixels-are, start .good)
+    let z = start .args .layer .state in
+    omega (arith, row-within (start .args .y) (z .width) (z .height) (start .pre .2), start .pre .0 .pixels-are, start .good)
 
 loop-holds : tie.Need-loop-holds Inv-loop μ-loop
 loop-holds c = (search needs, refl, refl, λ cells done. rw add-zero done)

@@ -5,8 +5,7 @@ use native.Mathlib.Omega.{arith}
 use native.Mathlib.Nat.{mul-comm}
 use lib.ListN.{length}
 use borrow.Author.Needs.{needs}
-use Rattle.plate.specs.Layout.{places}
-use Rattle.plate.specs.Refusal.{sizeOf, inputs}
+use Rattle.plate.specs.Refusal.{inputs}
 use Rattle.plate.specs.Filling.{FilledTo}
 use Rattle.plate.proofs.Filling.{filled-none}
 use Rattle.plate.proofs.layer.fill_rows.Statement.{statement}
@@ -55,7 +54,8 @@ returns : tie.Need-returns Inv-loop μ-loop
 returns c =
     let z = entry (c .before) .args .layer .state in
     let last : z .height ≡ c .before .loop .y = omega arith in
-    let all : z .width * z .height ≡ c .before .loop .y * z .width = mul-comm (z .width) (z .height) ∙ ap (λ (n : ℕ). n * z .width) last in
+    let all : z .width * z .height ≡ c .before .loop .y * z .width =
+    mul-comm (z .width) (z .height) ∙ ap (λ (n : ℕ). n * z .width) last in
     rw all (c .before .loop .inv .3)
 
 pub fill-rows-spec : {M : Type 1} → statement M

@@ -2,8 +2,8 @@
 use mathlib.Core.Path.{_≡_}
 use mathlib.Core.List.{List}
 use Prim.Native.Nat.{ℕ}
-use Rattle.plate.specs.Refusal.{Accepted, refuseIf, inputs, shapeCheck, lensCheck, depthsCheck, layerCheck}
 use borrow.Author.Needs.{needs}
+use Rattle.plate.specs.Refusal.{Accepted, refuseIf, inputs, shapeCheck, lensCheck, depthsCheck, layerCheck}
 use Rattle.plate.proofs.layer.read_layer.Statement.{statement}
 use Rattle.plate.proofs.layer.read_layer.Tie as tie
 
@@ -40,7 +40,12 @@ unfolding layerCheck refuseIf shapeCheck
 returns-2 c =
     let shaped = c .before .before in
     let valued = shaped .before in
-    λ opacities. rw (← valued .before .value-above .ensures, valued .if1 .left, ← shaped .shape-of .ensures, c .enum-told .given .1)
+    λ opacities. rw (
+      ← valued .before .value-above .ensures,
+      valued .if1 .left,
+      ← shaped .shape-of .ensures,
+      c .enum-told .given .1,
+    )
 
 lawful-lens-requires : tie.Need-lawful-lens-requires
 lawful-lens-requires c κs = search needs

@@ -1,14 +1,16 @@
--- The planes are cleared, the table is that of the shares, and after all rows each pixel's marks lie there and its word is stored.
-use mathlib.Core.Path.{_≡_}
+-- Planes and log are cleared; the table is that of the shares; after all rows each pixel's marks lie there and its word is stored.
 use native.Mathlib.Omega.{arith}
-use lib.ListN.{length, length-replicate}
-use Rattle.plate.proofs.Filling.{filled-all}
+use lib.ListN.{length-replicate}
 use borrow.Author.Needs.{needs}
+use Rattle.plate.proofs.Filling.{filled-all}
 use Rattle.plate.proofs.layer.replace.Statement.{statement}
 use Rattle.plate.proofs.layer.replace.Tie as tie
 
-clear-requires : tie.Need-clear-requires
-clear-requires c κs = search needs
+abbrev entry : tie.After-clear-both → tie.Start
+entry c = c .before .before .before .before .before .before .before .before .before
+
+clear-both-requires : tie.Need-clear-both-requires
+clear-both-requires c κs = search needs
 
 shares-requires : tie.Need-shares-requires
 shares-requires c κs = search needs
@@ -16,9 +18,8 @@ shares-requires c κs = search needs
 fill-rows-requires : tie.Need-fill-rows-requires
 fill-rows-requires c κs =
     let shared = c .before .before .before in
-    let cleared = shared .before .before .before in
-    let start = cleared .before .before .before .before .before .before .before in
-    (rw (cleared .clear .ensures, length-replicate) (start .pre), shared .shares .ensures)
+    let cleared = shared .before .before .before .before .before in
+    (rw (cleared .clear-both .ensures .0, length-replicate) (entry cleared .pre), shared .shares .ensures)
 
 same-length : tie.Need-same-length
 same-length c = search needs
@@ -26,18 +27,21 @@ same-length c = search needs
 same-length-2 : tie.Need-same-length-2
 same-length-2 c = search needs
 
+same-length-3 : tie.Need-same-length-3
+same-length-3 c = search needs
+
 returns : tie.Need-returns
 returns c =
     let made = c .before .before .before .before in
-    let cleared = made .before .before .before .before .before .before .before in
-    let start = cleared .before .before .before .before .before .before .before in
+    let cleared = made .before .before .before .before .before .before .before .before .before in
     let done = made .fill-rows .ensures in
     record {
-      laid = rw (done .laid, cleared .clear .ensures);
-      stored = filled-all _ _ _ _ _ _ (omega (arith, start .pre .pixels-are)) done;
+      laid = rw (done .laid, cleared .clear-both .ensures .0);
+      stored = filled-all _ _ _ _ _ _ (omega (arith, entry cleared .pre .pixels-are)) done;
+      emptied = cleared .clear-both .ensures .1;
     }
 
 pub replace-spec : {M : Type 1} → statement M
 replace-spec =
     tie.close
-    (tie.spec clear-requires shares-requires fill-rows-requires same-length same-length-2 returns)
+    (tie.spec clear-both-requires shares-requires fill-rows-requires same-length same-length-2 same-length-3 returns)

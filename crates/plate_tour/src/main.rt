@@ -1,0 +1,73 @@
+// A plate of 3 × 1 pixels: opened, two pixels put, one taken back, then filled. Each show prints value and matte of each cell.
+use libc::STDOUT_FILENO;
+use plate::Lens;
+use plate::State;
+
+fn print_cell(value: u16, matte: u8, end: &[u8]) {
+    io::print_decimal(STDOUT_FILENO, value as u64);
+    io::write_all(STDOUT_FILENO, b"/");
+    io::print_decimal(STDOUT_FILENO, matte as u64);
+    io::write_all(STDOUT_FILENO, end);
+}
+
+fn print_show(state: State, planes: &[u64]) {
+    let mut scratch = [0u64; 297];
+    let mut values = [0u16; 3];
+    let mut mattes = [0u8; 3];
+    plate::show::show(state, planes, &mut scratch, &mut values, &mut mattes);
+    print_cell(values[0], mattes[0], b" ");
+    print_cell(values[1], mattes[1], b" ");
+    print_cell(values[2], mattes[2], b"\n");
+}
+
+fn main() {
+    let mut planes = [0u64; 1386];
+    let mut pixels = [0u64; 3];
+    let mut log = [0u64; 2];
+    let opened = plate::open::open(3, 1, 1, &mut planes, &mut pixels, &mut log);
+    let first = plate::put::put(
+        opened.state,
+        1,
+        0,
+        100,
+        255,
+        0,
+        1,
+        &mut planes,
+        &mut pixels,
+        &mut log,
+    );
+    let second = plate::put::put(
+        first.state,
+        0,
+        0,
+        40,
+        255,
+        0,
+        0,
+        &mut planes,
+        &mut pixels,
+        &mut log,
+    );
+    print_show(second.state, &planes);
+    let undone = plate::undo::undo(second.state, &mut planes, &mut pixels, &mut log);
+    print_show(undone.state, &planes);
+    let lens = Lens {
+        opening: 250,
+        focal: 500,
+        focus: 20000,
+        pitch: 50,
+    };
+    let filled = plate::fill::fill(
+        undone.state,
+        lens,
+        3,
+        &[1000, 2000, 3000],
+        &[255, 128, 255],
+        &[20000, 40000, 0],
+        &mut planes,
+        &mut pixels,
+        &mut log,
+    );
+    print_show(filled.state, &planes);
+}
