@@ -1,18 +1,17 @@
 -- A kernel's drawing, laid from its corner, is the kernel's marks laid around its pixel.
 use mathlib.Core.Path.{_≡_, refl, ap, sym, _∙_}
-use mathlib.Core.List.{List, [], _∷_, _++_}
-use Prim.Native.Nat.{ℕ, zero, suc, _+_, _*_, _-_, _/_, _%_, _^_, _≤_, _<_, min}
+use mathlib.Core.List.{List, [], _∷_}
+use Prim.Native.Nat.{ℕ, zero, suc, _+_, _*_, _-_, _/_, _%_, _^_, _≤_, _<_}
 use native.Mathlib.Omega.{arith}
 use native.Mathlib.Nat.{mul-assoc, mod-mod, mod-eq-of-lt, div-eq-of-lt, mul-add-mod-self-right, mul-add-div-right, mul-le-mul-right}
-use lib.ListN.{length, getD, set, length-append}
+use lib.ListN.{length, getD, length-append}
 use Rattle.kernels.specs.declared.shape.Shape.{Shape}
 use Rattle.kernels.specs.declared.mark.Drawing.{Drawing}
 use Rattle.kernels.specs.declared.mark.Drawing.the-variants.{Grid, Two, Three}
-use Rattle.kernels.specs.Shape.{boxesOf, reachOf, topOf, topUnder, countOf}
+use Rattle.kernels.specs.Shape.{reachOf, topOf, topUnder, countOf}
 use Rattle.kernels.specs.Tap.{share, shareUpTo}
 use Rattle.kernels.specs.Mark.{Mark, mark, minus, scaled, marksTo, boxGrid, tapMarks, marks}
 use Rattle.kernels.specs.Drawing.{drawnMarks, moved}
-use Rattle.kernels.proofs.Sums.{cong-mul, cong-add}
 use Rattle.kernels.proofs.Numbers.{product-le}
 use Rattle.kernels.proofs.Shapes.{count-few}
 use Rattle.kernels.proofs.Choices.{within-yes, by-lt}
@@ -22,13 +21,15 @@ use Rattle.plate.specs.Word.{Pixel}
 use Rattle.plate.specs.Marks.{inBoth, pixelMarks, cellOf, layOne, layAll}
 use Rattle.plate.proofs.Extents.{place-within}
 use Rattle.plate.proofs.Laying.{lay-one-mod}
-use Rattle.plate.specs.Laying.{Worth, times, worthOf, Frame, frameOf, Ground, spot, layWorth, layDrawn, Inside, FewBoxes}
+use Rattle.plate.specs.Laying.{Worth, times, worthOf, Frame, frameOf, Ground, layWorth, layDrawn, Inside, FewBoxes}
+use Rattle.plate.proofs.Laid.{times-number}
 
 -- WHERE A PIXEL LIES
-column-at : (z : Size) (x y : ℕ) → x < z .width → columnOf z (y * z .width + x) ≡ x + z .reach + 3
+-- "place being y × W + x"
+pub column-at : (z : Size) (x y : ℕ) → x < z .width → columnOf z (y * z .width + x) ≡ x + z .reach + 3
 column-at z x y h = rw (mul-add-mod-self-right y (z .width) x, mod-eq-of-lt h)
 
-row-at : (z : Size) (x y : ℕ) → x < z .width → rowOf z (y * z .width + x) ≡ y + z .reach + 3
+pub row-at : (z : Size) (x y : ℕ) → x < z .width → rowOf z (y * z .width + x) ≡ y + z .reach + 3
 row-at z x y h = rw (mul-add-div-right {m = z .width} (omega arith) y x, div-eq-of-lt h) (omega arith)
 
 -- a cell of a plane
@@ -43,6 +44,7 @@ cell-in w h a b p x y pl col row =
 abbrev pub groundOf : Frame → ℕ → ℕ → Ground
 groundOf f a b = record { wide = f .wide; padded = f .padded; corner = b * f .wide + a }
 
+-- marks near enough to a pixel lie in the planes
 near-inside : (z : Size) (a b c d X Y : ℕ) → X + d < wide z → Y + d < high z → (ms : List Mark)
     → Each (Near d X Y) (scaled c (moved a b ms)) → Inside (groundOf (frameOf z) a b) ms
 unfolding Each scaled moved Inside
@@ -60,12 +62,14 @@ lay-alike-both : (cells : List ℕ) (j k v w x y : ℕ) → v % 2 ^ 64 ≡ w % 2
     → layOne (layOne cells j v) k x ≡ layOne (layOne cells j w) k y
 lay-alike-both cells j k v w x y e f = rw (lay-one-mod cells j v w e) (lay-one-mod (layOne cells j w) k x y f)
 
+-- a cell counted from the drawing's corner, and from the first cell
 spot-cell : (w P a b p x y : ℕ) → b * w + a + (p * P + (y * w + x)) ≡ p * P + ((y + b) * w + (x + a))
 spot-cell w P a b p x y = omega arith
 
 matte-cell : (P p n : ℕ) → 7 * P + (p * P + n) ≡ (7 + p) * P + n
 matte-cell P p n = omega arith
 
+-- the marks of a drawing, moved from the corner
 drawn-laid : (z : Size) (w : Worth) (a b : ℕ) (cells : List ℕ) (ms : List Mark)
     → layDrawn (groundOf (frameOf z) a b) w cells ms ≡ layAll z cells (inBoth (w .light) (w .matte) (moved a b ms))
 unfolding layDrawn layWorth layAll inBoth moved
@@ -119,6 +123,7 @@ pub frame-planes : (z : Size) (f : Frame) (n : ℕ) → f ≡ frameOf z → n �
 frame-planes z f n framed e = rw framed e
 
 -- PIXELS
+-- the share goes into the worth
 both-scaled : (l m c : ℕ) (ms : List Mark) → inBoth l m (scaled c ms) ≡ inBoth (l * c) (m * c) ms
 unfolding inBoth scaled
 both-scaled l m c [] = refl
@@ -138,9 +143,7 @@ pixel-worth z i p s e h =
 
 -- minus a worth is laid as minus its marks
 opposite-alike : (l c : ℕ) → ((l * minus 1) % 2 ^ 64 * c) % 2 ^ 64 ≡ (minus 1 * (l * c)) % 2 ^ 64
-opposite-alike l c =
-    cong-mul (2 ^ 64) ((l * minus 1) % 2 ^ 64) (l * minus 1) c c (mod-mod (l * minus 1) (2 ^ 64)) refl
-    ∙ ap (λ (n : ℕ). n % 2 ^ 64) (omega arith)
+opposite-alike l c = times-number l (minus 1) c ∙ ap (λ (n : ℕ). n % 2 ^ 64) (omega arith)
 
 pub opposite-laid : (z : Size) (l m : ℕ) (cells : List ℕ) (ms : List Mark)
     → layAll z cells (inBoth ((l * minus 1) % 2 ^ 64) ((m * minus 1) % 2 ^ 64) ms)
@@ -152,7 +155,8 @@ opposite-laid z l m cells (k ∷ ms) =
     (lay-alike-both cells (cellOf z k) _ _ _ _ _ (opposite-alike l (k .coefficient)) (opposite-alike m (k .coefficient)))
     ∙ opposite-laid z l m _ ms
 
--- A DRAWING OF A KERNEL HAS ONE TO THREE BOXES
+-- BOXES
+-- n boxes make (n + 1)² marks, and a kernel has 4 to 16, so that it has one to three boxes
 length-to : (f : ℕ → List Mark) (k n : ℕ) → ((i : ℕ) → length (f i) ≡ k) → length (marksTo f n) ≡ n * k
 unfolding marksTo
 length-to f k zero h = omega arith

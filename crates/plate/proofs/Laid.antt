@@ -1,13 +1,13 @@
--- Worths, and the marks of a drawing laid one after the other.
+-- Laws of worths, of the marks of a drawing laid one after the other, and of the columns of a grid of boxes.
 use mathlib.Core.Path.{_≡_, refl, ap, sym, _∙_}
 use mathlib.Core.List.{List, [], _∷_, _++_}
-use Prim.Native.Nat.{ℕ, _+_, _*_, _-_, _%_, _^_, _≤_, _<_}
+use Prim.Native.Nat.{ℕ, _+_, _*_, _-_, _%_, _^_, _<_}
 use native.Mathlib.Omega.{arith}
 use native.Mathlib.Nat.{mod-mod, mul-assoc, mod-eq-of-lt, mod-add-mod, add-mul-mod-self-left, zero-add}
 use Rattle.kernels.specs.Mark.{Mark, minus, sign, choose, marksTo, boxGrid}
 use Rattle.kernels.specs.Drawing.{pieceMarks}
-use Rattle.kernels.proofs.Sums.{cong-mul, cong-add}
-use Rattle.plate.specs.Laying.{Worth, times, added, Ground, spot, layWorth, layDrawn, Inside, columnOfThree, columnOfFour}
+use Rattle.kernels.proofs.Sums.{cong-mul}
+use Rattle.plate.specs.Laying.{Worth, times, Ground, layWorth, layDrawn, Inside, columnOfThree, columnOfFour}
 
 -- WORTHS
 -- what wraps to 0 with w is minus w, wrapped
@@ -20,34 +20,29 @@ pub opposite-number : (r w : ℕ) → r < 2 ^ 64 → (r + w) % 2 ^ 64 ≡ 0 → 
 unfolding minus
 opposite-number r w h e = opposite-under (2 ^ 64 - 1) r w h e
 
+-- c times a worth
 pub times-one : (w : Worth) → w .light < 2 ^ 64 → w .matte < 2 ^ 64 → w ≡ times w 1
 times-one w h k =
     let e : (w .light * 1) % 2 ^ 64 ≡ w .light = omega arith in
     let f : (w .matte * 1) % 2 ^ 64 ≡ w .matte = omega arith in
     rw (e, f)
 
-times-number : (a c d : ℕ) → (a * c) % 2 ^ 64 * d % 2 ^ 64 ≡ (a * (c * d)) % 2 ^ 64
+pub twice-number : (a : ℕ) → (a + a) % 2 ^ 64 ≡ (a * 2) % 2 ^ 64
+twice-number a = omega arith
+
+pub thrice-number : (a : ℕ) → ((a * 2) % 2 ^ 64 + a) % 2 ^ 64 ≡ (a * 3) % 2 ^ 64
+thrice-number a = omega arith
+
+-- a product may wrap on the way
+pub times-number : (a c d : ℕ) → (a * c) % 2 ^ 64 * d % 2 ^ 64 ≡ (a * (c * d)) % 2 ^ 64
 times-number a c d =
     cong-mul (2 ^ 64) ((a * c) % 2 ^ 64) (a * c) d d (mod-mod (a * c) (2 ^ 64)) refl ∙ ap (λ (n : ℕ). n % 2 ^ 64) (mul-assoc a c d)
 
-times-times : (w : Worth) (c d : ℕ) → times (times w c) d ≡ times w (c * d)
-times-times w c d = rw (times-number (w .light) c d, times-number (w .matte) c d)
-
-pub opposite-is : (w v : Worth) (c : ℕ) → v ≡ times w c → times v (minus 1) ≡ times w (minus c)
-unfolding minus
-opposite-is w v c e =
-    let turned : c * (2 ^ 64 - 1) ≡ (2 ^ 64 - 1) * c = omega arith in
-    rw (e, times-times w c (2 ^ 64 - 1), turned)
-
-added-number : (a c d : ℕ) → ((a * c) % 2 ^ 64 + (a * d) % 2 ^ 64) % 2 ^ 64 ≡ (a * (c + d)) % 2 ^ 64
-added-number a c d =
-    cong-add ((a * c) % 2 ^ 64) (a * c) ((a * d) % 2 ^ 64) (a * d) (mod-mod (a * c) (2 ^ 64)) (mod-mod (a * d) (2 ^ 64))
-    ∙ ap (λ (n : ℕ). n % 2 ^ 64) (omega arith)
-
-pub added-is : (w u v : Worth) (c d : ℕ) → u ≡ times w c → v ≡ times w d → added u v ≡ times w (c + d)
-added-is w u v c d e f = rw (e, f, added-number (w .light) c d, added-number (w .matte) c d)
+pub times-times : (w v : Worth) (c d : ℕ) → v ≡ times w c → times v d ≡ times w (c * d)
+times-times w v c d e = rw (e, times-number (w .light) c d, times-number (w .matte) c d)
 
 -- DRAWINGS
+-- one list of marks after another
 pub drawn-append : (g : Ground) (w : Worth) (cells : List ℕ) (ms ns : List Mark)
     → layDrawn g w cells (ms ++ ns) ≡ layDrawn g w (layDrawn g w cells ms) ns
 unfolding layDrawn
@@ -55,7 +50,7 @@ drawn-append g w cells [] ns = refl
 drawn-append g w cells (m ∷ ms) ns = drawn-append g w (layWorth g cells (m .plane) (m .column) (m .row) (times w (m .coefficient))) ms ns
 
 -- GRIDS OF BOXES
--- the columns of a grid
+-- the grid of n boxes is n + 1 columns of marks
 at-start : (l : ℕ) → 3 + 0 * l ≡ 3
 at-start l = omega arith
 
@@ -79,6 +74,7 @@ pub triple-columns : (p l : ℕ) → boxGrid p 3 l 3 3
 unfolding boxGrid marksTo sign choose minus columnOfFour
 triple-columns p l = simp (at-start, at-side)
 
+-- INSIDE
 inside-append : (g : Ground) (ms ns : List Mark) → Inside g (ms ++ ns) → Inside g ms × Inside g ns
 unfolding Inside
 inside-append g [] ns h = (tt, h)

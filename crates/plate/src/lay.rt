@@ -9,7 +9,7 @@ ghost use Rattle.kernels.specs.Drawing.{pieceMarks, twoPieces, threePieces, dra
 ghost use Rattle.plate.specs.Layout.{columnOf, rowOf};
 ghost use Rattle.plate.specs.Refusal.{sizeOf};
 ghost use Rattle.plate.specs.Marks.{inBoth, pixelMarks, layAll};
-ghost use Rattle.plate.specs.Laying.{Worth, times, added, worthOf, frameOf, spot, layWorth, layDrawn, columnOfThree, columnOfFour, FewBoxes, Lies, Placed};
+ghost use Rattle.plate.specs.Laying.{Worth, times, worthOf, frameOf, spot, layWorth, layDrawn, columnOfThree, columnOfFour, FewBoxes, Roomy, Placed};
 use crate::state::State;
 use crate::word::Pixel;
 use kernels::Boxes;
@@ -36,7 +36,7 @@ pub struct Ground {
     pub corner: usize,
 }
 
-// The opposite worth.
+// The worth that wraps to 0 with w.
 fn opposite(w: Worth) -> Worth
     ensures { λ r. ⌜ r ≡ times w (minus 1) ⌝ }
 {
@@ -46,13 +46,24 @@ fn opposite(w: Worth) -> Worth
     }
 }
 
-// Two worths together.
-fn both(v: Worth, w: Worth) -> Worth
-    ensures { λ r. ⌜ r ≡ added v w ⌝ }
+// What two marks of worth w add.
+fn twice(w: Worth) -> Worth
+    ensures { λ r. ⌜ r ≡ times w 2 ⌝ }
 {
     Worth {
-        light: std::num::wrapping_add_u64(v.light, w.light),
-        matte: std::num::wrapping_add_u64(v.matte, w.matte),
+        light: std::num::wrapping_add_u64(w.light, w.light),
+        matte: std::num::wrapping_add_u64(w.matte, w.matte),
+    }
+}
+
+// What three marks of worth w add.
+fn thrice(w: Worth) -> Worth
+    ensures { λ r. ⌜ r ≡ times w 3 ⌝ }
+{
+    let two = twice(w);
+    Worth {
+        light: std::num::wrapping_add_u64(two.light, w.light),
+        matte: std::num::wrapping_add_u64(two.matte, w.matte),
     }
 }
 
@@ -79,7 +90,7 @@ fn lay_piece(
     start: Worth,
     end: Worth,
 )
-    requires { ⌜ Lies g (length (now planes)) (pieceMarks plane x0 y0 x1 y1 1 1) ⌝ }
+    requires { ⌜ Roomy g (length (now planes)) (pieceMarks plane x0 y0 x1 y1 1 1) ⌝ }
     ensures { λ _. ⌜ ((w : Worth) (c d : ℕ) → start ≡ times w c → end ≡ times w d → now (planes .exit) ≡ layDrawn g w (now (planes .entry)) (pieceMarks plane x0 y0 x1 y1 c d)) ⌝ }
 {
     lay_mark(planes, g, plane, x0, y0, start);
@@ -97,7 +108,7 @@ fn lay_two_pieces(
     start: Worth,
     end: Worth,
 )
-    requires { ⌜ Lies g (length (now planes)) (twoPieces p q 1 1 o l) ⌝ }
+    requires { ⌜ Roomy g (length (now planes)) (twoPieces p q 1 1 o l) ⌝ }
     ensures { λ _. ⌜ ((w : Worth) (c d : ℕ) → start ≡ times w c → end ≡ times w d → now (planes .exit) ≡ layDrawn g w (now (planes .entry)) (twoPieces p q c d o l)) ⌝ }
 {
     lay_piece(planes, g, p, o.left, l.edge, o.turn, l.level, start, end);
@@ -115,7 +126,7 @@ fn lay_three_pieces(
     start: Worth,
     end: Worth,
 )
-    requires { ⌜ Lies g (length (now planes)) (threePieces p q 1 1 o l) ⌝ }
+    requires { ⌜ Roomy g (length (now planes)) (threePieces p q 1 1 o l) ⌝ }
     ensures { λ _. ⌜ ((w : Worth) (c d : ℕ) → start ≡ times w c → end ≡ times w d → now (planes .exit) ≡ layDrawn g w (now (planes .entry)) (threePieces p q c d o l)) ⌝ }
 {
     lay_piece(planes, g, p, o.left, l.edge, o.turn, l.level, start, end);
@@ -125,7 +136,7 @@ fn lay_three_pieces(
 
 // The diamond's lines: plus along the top, minus along the bottom.
 fn lay_two(planes: &mut [u64], g: Ground, o: Outline, w: Worth)
-    requires { ⌜ Lies g (length (now planes)) (drawnMarks (Two o)) ⌝ }
+    requires { ⌜ Roomy g (length (now planes)) (drawnMarks (Two o)) ⌝ }
     ensures { λ _. ⌜ now (planes .exit) ≡ layDrawn g w (now (planes .entry)) (drawnMarks (Two o)) ⌝ }
 {
     let minus = opposite(w);
@@ -137,7 +148,7 @@ fn lay_two(planes: &mut [u64], g: Ground, o: Outline, w: Worth)
 
 // The lines of the hexagon and the octagon.
 fn lay_three(planes: &mut [u64], g: Ground, o: Outline, w: Worth)
-    requires { ⌜ Lies g (length (now planes)) (drawnMarks (Three o)) ⌝ }
+    requires { ⌜ Roomy g (length (now planes)) (drawnMarks (Three o)) ⌝ }
     ensures { λ _. ⌜ now (planes .exit) ≡ layDrawn g w (now (planes .entry)) (drawnMarks (Three o)) ⌝ }
 {
     let minus = opposite(w);
@@ -157,7 +168,7 @@ fn lay_column_of_three(
     outer: Worth,
     inner: Worth,
 )
-    requires { ⌜ Lies g (length (now planes)) (columnOfThree plane x side 1 1) × (3 + 2 * side < length (now planes)) ⌝ }
+    requires { ⌜ Roomy g (length (now planes)) (columnOfThree plane x side 1 1) × (3 + 2 * side < length (now planes)) ⌝ }
     ensures { λ _. ⌜ ((w : Worth) (c d : ℕ) → outer ≡ times w c → inner ≡ times w d → now (planes .exit) ≡ layDrawn g w (now (planes .entry)) (columnOfThree plane x side c d)) ⌝ }
 {
     lay_mark(planes, g, plane, x, 3, outer);
@@ -177,7 +188,7 @@ fn lay_column_of_four(
     c: Worth,
     d: Worth,
 )
-    requires { ⌜ Lies g (length (now planes)) (columnOfFour plane x side 1 1 1 1) × (3 + 3 * side < length (now planes)) ⌝ }
+    requires { ⌜ Roomy g (length (now planes)) (columnOfFour plane x side 1 1 1 1) × (3 + 3 * side < length (now planes)) ⌝ }
     ensures { λ _. ⌜ ((w : Worth) (i j k l : ℕ) → a ≡ times w i → b ≡ times w j → c ≡ times w k → d ≡ times w l → now (planes .exit) ≡ layDrawn g w (now (planes .entry)) (columnOfFour plane x side i j k l)) ⌝ }
 {
     lay_mark(planes, g, plane, x, 3, a);
@@ -188,7 +199,7 @@ fn lay_column_of_four(
 
 // One box: neighbouring corners differ in sign.
 fn lay_box(planes: &mut [u64], g: Ground, plane: usize, side: usize, w: Worth)
-    requires { ⌜ Lies g (length (now planes)) (boxGrid plane 1 side 3 3) ⌝ }
+    requires { ⌜ Roomy g (length (now planes)) (boxGrid plane 1 side 3 3) ⌝ }
     ensures { λ _. ⌜ now (planes .exit) ≡ layDrawn g w (now (planes .entry)) (boxGrid plane 1 side 3 3) ⌝ }
 {
     let minus = opposite(w);
@@ -199,66 +210,41 @@ fn lay_box(planes: &mut [u64], g: Ground, plane: usize, side: usize, w: Worth)
 
 // Two boxes convolved: factors 1, -2, 1 along each axis.
 fn lay_tent(planes: &mut [u64], g: Ground, plane: usize, side: usize, w: Worth)
-    requires { ⌜ Lies g (length (now planes)) (boxGrid plane 2 side 3 3) ⌝ }
+    requires { ⌜ Roomy g (length (now planes)) (boxGrid plane 2 side 3 3) ⌝ }
     ensures { λ _. ⌜ now (planes .exit) ≡ layDrawn g w (now (planes .entry)) (boxGrid plane 2 side 3 3) ⌝ }
 {
-    let two = both(w, w);
-    let minus = opposite(two);
-    let four = both(two, two);
-    lay_column_of_three(planes, g, plane, 3, side, w, minus);
-    lay_column_of_three(planes, g, plane, 3 + side, side, minus, four);
-    lay_column_of_three(planes, g, plane, 3 + 2 * side, side, w, minus);
+    let second = 3 + side;
+    let third = 3 + 2 * side;
+    let two = twice(w);
+    let minus2 = opposite(two);
+    let four = twice(two);
+    lay_column_of_three(planes, g, plane, 3, side, w, minus2);
+    lay_column_of_three(planes, g, plane, second, side, minus2, four);
+    lay_column_of_three(planes, g, plane, third, side, w, minus2);
 }
 
 // Three boxes convolved: factors 1, -3, 3, -1 along each axis.
 fn lay_triple(planes: &mut [u64], g: Ground, plane: usize, side: usize, w: Worth)
-    requires { ⌜ Lies g (length (now planes)) (boxGrid plane 3 side 3 3) ⌝ }
+    requires { ⌜ Roomy g (length (now planes)) (boxGrid plane 3 side 3 3) ⌝ }
     ensures { λ _. ⌜ now (planes .exit) ≡ layDrawn g w (now (planes .entry)) (boxGrid plane 3 side 3 3) ⌝ }
 {
-    let one = opposite(w);
-    let three = both(both(w, w), w);
-    let minus_three = opposite(three);
-    let nine = both(both(three, three), three);
-    let minus_nine = opposite(nine);
-    lay_column_of_four(planes, g, plane, 3, side, w, minus_three, three, one);
-    lay_column_of_four(
-        planes,
-        g,
-        plane,
-        3 + side,
-        side,
-        minus_three,
-        nine,
-        minus_nine,
-        three,
-    );
-    lay_column_of_four(
-        planes,
-        g,
-        plane,
-        3 + 2 * side,
-        side,
-        three,
-        minus_nine,
-        nine,
-        minus_three,
-    );
-    lay_column_of_four(
-        planes,
-        g,
-        plane,
-        3 + 3 * side,
-        side,
-        one,
-        three,
-        minus_three,
-        w,
-    );
+    let second = 3 + side;
+    let third = 3 + 2 * side;
+    let fourth = 3 + 3 * side;
+    let minus1 = opposite(w);
+    let three = thrice(w);
+    let minus3 = opposite(three);
+    let nine = thrice(three);
+    let minus9 = opposite(nine);
+    lay_column_of_four(planes, g, plane, 3, side, w, minus3, three, minus1);
+    lay_column_of_four(planes, g, plane, second, side, minus3, nine, minus9, three);
+    lay_column_of_four(planes, g, plane, third, side, three, minus9, nine, minus3);
+    lay_column_of_four(planes, g, plane, fourth, side, minus1, three, minus3, w);
 }
 
 // The marks of one, two or three boxes convolved.
 fn lay_grid(planes: &mut [u64], g: Ground, b: Boxes, w: Worth)
-    requires { ⌜ Lies g (length (now planes)) (drawnMarks (Grid b)) × FewBoxes (Grid b) ⌝ }
+    requires { ⌜ Roomy g (length (now planes)) (drawnMarks (Grid b)) × FewBoxes (Grid b) ⌝ }
     ensures { λ _. ⌜ now (planes .exit) ≡ layDrawn g w (now (planes .entry)) (drawnMarks (Grid b)) ⌝ }
 {
     let count = b.count;
@@ -275,7 +261,7 @@ fn lay_grid(planes: &mut [u64], g: Ground, b: Boxes, w: Worth)
 
 // The marks of a drawing.
 fn lay_drawing(planes: &mut [u64], g: Ground, d: Drawing, w: Worth)
-    requires { ⌜ Lies g (length (now planes)) (drawnMarks d) × FewBoxes d ⌝ }
+    requires { ⌜ Roomy g (length (now planes)) (drawnMarks d) × FewBoxes d ⌝ }
     ensures { λ _. ⌜ now (planes .exit) ≡ layDrawn g w (now (planes .entry)) (drawnMarks d) ⌝ }
 {
     match d {

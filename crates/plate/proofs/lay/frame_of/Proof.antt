@@ -1,9 +1,9 @@
--- A lawful plate has at most 4,230 columns and rows, so their product does not wrap.
+-- `lay::frame_of` meets its contract: a lawful plate is at most 4,230 cells wide and high, so the product does not wrap.
 use native.Mathlib.Omega.{arith}
+use borrow.Author.Needs.{needs}
 use Rattle.kernels.proofs.Numbers.{product-le}
 use Rattle.plate.specs.Layout.{wide, high}
 use Rattle.plate.specs.Refusal.{sizeOf}
-use borrow.Author.Needs.{needs}
 use Rattle.plate.proofs.lay.frame_of.Statement.{statement}
 use Rattle.plate.proofs.lay.frame_of.Tie as tie
 

@@ -1,10 +1,9 @@
--- The four corners are two columns of two marks, laid as two pieces.
-use mathlib.Core.Path.{sym}
+-- `lay::lay_box` meets its contract: a box's grid is two columns of two marks.
 use native.Mathlib.Omega.{arith}
-use Rattle.kernels.specs.Mark.{minus, boxGrid, marksTo}
-use Rattle.plate.specs.Laying.{Inside, layDrawn}
-use Rattle.plate.proofs.Laid.{times-one, drawn-append, box-columns}
 use borrow.Author.Needs.{needs}
+use Rattle.kernels.specs.Mark.{minus, boxGrid, marksTo}
+use Rattle.plate.specs.Laying.{Inside}
+use Rattle.plate.proofs.Laid.{times-one, drawn-append, box-columns}
 use Rattle.plate.proofs.lay.lay_box.Statement.{statement}
 use Rattle.plate.proofs.lay.lay_box.Tie as tie
 

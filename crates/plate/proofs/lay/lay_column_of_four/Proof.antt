@@ -1,7 +1,7 @@
--- Four marks laid one after the other.
+-- `lay::lay_column_of_four` meets its contract: it lays the four marks from the top down.
 use native.Mathlib.Omega.{arith}
-use Rattle.plate.specs.Laying.{Inside, layDrawn, columnOfFour}
 use borrow.Author.Needs.{needs}
+use Rattle.plate.specs.Laying.{Inside, layDrawn, columnOfFour}
 use Rattle.plate.proofs.lay.lay_column_of_four.Statement.{statement}
 use Rattle.plate.proofs.lay.lay_column_of_four.Tie as tie
 

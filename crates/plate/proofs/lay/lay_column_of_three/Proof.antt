@@ -1,7 +1,7 @@
--- Three marks laid one after the other.
+-- `lay::lay_column_of_three` meets its contract: it lays the three marks from the top down.
 use native.Mathlib.Omega.{arith}
-use Rattle.plate.specs.Laying.{Inside, layDrawn, columnOfThree}
 use borrow.Author.Needs.{needs}
+use Rattle.plate.specs.Laying.{Inside, layDrawn, columnOfThree}
 use Rattle.plate.proofs.lay.lay_column_of_three.Statement.{statement}
 use Rattle.plate.proofs.lay.lay_column_of_three.Tie as tie
 

@@ -1,4 +1,4 @@
--- Each kind of drawing is laid by its own function.
+-- `lay::lay_drawing` meets its contract, arm by arm.
 use borrow.Author.Needs.{needs}
 use Rattle.plate.proofs.lay.lay_drawing.Statement.{statement}
 use Rattle.plate.proofs.lay.lay_drawing.Tie as tie

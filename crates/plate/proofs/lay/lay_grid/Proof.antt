@@ -1,9 +1,9 @@
--- A grid has one, two or three boxes.
+-- `lay::lay_grid` meets its contract: a count that is neither 1 nor 2 is 3.
 use mathlib.Core.Path.{_≡_}
 use native.Mathlib.Omega.{arith}
+use borrow.Author.Needs.{needs}
 use Rattle.kernels.specs.Drawing.{drawnMarks}
 use Rattle.plate.specs.Laying.{FewBoxes}
-use borrow.Author.Needs.{needs}
 use Rattle.plate.proofs.lay.lay_grid.Statement.{statement}
 use Rattle.plate.proofs.lay.lay_grid.Tie as tie
 

@@ -1,13 +1,13 @@
--- The drawing from its corner is the kernel around its pixel, and lies inside the planes.
-use lib.ListN.{length}
+-- `lay::lay_kernel` meets its contract: the drawing, moved by what the kernel leaves of the margin, lies around the pixel.
 use Prim.Native.Nat.{ℕ, _+_, _*_, _-_, _≤_, _<_}
 use native.Mathlib.Omega.{arith}
+use lib.ListN.{length}
+use borrow.Author.Needs.{needs}
 use Rattle.kernels.specs.Shape.{reachOf}
 use Rattle.kernels.specs.Drawing.{drawnMarks}
 use Rattle.plate.specs.Refusal.{sizeOf}
 use Rattle.plate.proofs.Cells.{reach-under}
 use Rattle.plate.proofs.Grounds.{corner-in, frame-planes, kernel-laid, kernel-inside, few-boxes}
-use borrow.Author.Needs.{needs}
 use Rattle.plate.proofs.lay.lay_kernel.Statement.{statement}
 use Rattle.plate.proofs.lay.lay_kernel.Tie as tie
 

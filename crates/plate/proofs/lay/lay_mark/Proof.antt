@@ -1,10 +1,9 @@
--- A wrapping sum in light, and one seven planes on.
-use mathlib.Core.Path.{refl}
+-- `lay::lay_mark` meets its contract: both cells lie in the planes, and each gets its sum.
 use native.Mathlib.Omega.{arith}
 use lib.ListN.{length-set}
+use borrow.Author.Needs.{needs}
 use Rattle.plate.specs.Marks.{layOne}
 use Rattle.plate.specs.Laying.{layWorth}
-use borrow.Author.Needs.{needs}
 use Rattle.plate.proofs.lay.lay_mark.Statement.{statement}
 use Rattle.plate.proofs.lay.lay_mark.Tie as tie
 

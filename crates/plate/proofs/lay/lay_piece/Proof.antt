@@ -1,7 +1,7 @@
--- A mark at the start, and one a step past the last column.
+-- `lay::lay_piece` meets its contract: it lays the start and then the end.
 use native.Mathlib.Omega.{arith}
-use Rattle.plate.specs.Laying.{Inside, layDrawn}
 use borrow.Author.Needs.{needs}
+use Rattle.plate.specs.Laying.{Inside, layDrawn}
 use Rattle.plate.proofs.lay.lay_piece.Statement.{statement}
 use Rattle.plate.proofs.lay.lay_piece.Tie as tie
 

@@ -1,11 +1,10 @@
--- The top line counts plus, the bottom line minus.
-use mathlib.Core.Path.{sym}
+-- `lay::lay_three` meets its contract: the top line is worth plus and then minus, the bottom line minus and then plus.
 use native.Mathlib.Omega.{arith}
+use borrow.Author.Needs.{needs}
 use Rattle.kernels.specs.Mark.{minus}
 use Rattle.kernels.specs.Drawing.{drawnMarks, threePieces}
-use Rattle.plate.specs.Laying.{Inside, layDrawn}
+use Rattle.plate.specs.Laying.{Inside}
 use Rattle.plate.proofs.Laid.{times-one, drawn-append}
-use borrow.Author.Needs.{needs}
 use Rattle.plate.proofs.lay.lay_three.Statement.{statement}
 use Rattle.plate.proofs.lay.lay_three.Tie as tie
 
@@ -30,10 +29,10 @@ returns c =
     let plus = times-one (a .w) (omega arith) (omega arith) in
     let turned = c .before .before .before .before .before .before .before .before .before .before .opposite .ensures in
     rw (
+      drawn-append,
       c .before .before .lay-three-pieces2 .ensures (a .w) (minus 1) 1 turned plus,
       c .before .before .before .before .before .before .lay-three-pieces .ensures (a .w) 1 (minus 1) plus turned,
     )
-    (sym (drawn-append _ _ _ _ _))
 
 pub lay-three-spec : {M : Type 1} → statement M
 lay-three-spec =

@@ -1,7 +1,7 @@
--- Three pieces laid one after the other.
+-- `lay::lay_three_pieces` meets its contract: each piece starts where the one before it ended.
+use borrow.Author.Needs.{needs}
 use Rattle.kernels.specs.Drawing.{threePieces}
 use Rattle.plate.specs.Laying.{Inside, layDrawn}
-use borrow.Author.Needs.{needs}
 use Rattle.plate.proofs.lay.lay_three_pieces.Statement.{statement}
 use Rattle.plate.proofs.lay.lay_three_pieces.Tie as tie
 

@@ -1,7 +1,7 @@
--- Two pieces laid one after the other.
+-- `lay::lay_two_pieces` meets its contract: the second piece starts where the first ended.
+use borrow.Author.Needs.{needs}
 use Rattle.kernels.specs.Drawing.{twoPieces}
 use Rattle.plate.specs.Laying.{Inside, layDrawn}
-use borrow.Author.Needs.{needs}
 use Rattle.plate.proofs.lay.lay_two_pieces.Statement.{statement}
 use Rattle.plate.proofs.lay.lay_two_pieces.Tie as tie
 

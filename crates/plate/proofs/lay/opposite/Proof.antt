@@ -1,6 +1,6 @@
--- What wraps to 0 with a worth is minus that worth.
-use Rattle.plate.proofs.Laid.{opposite-number}
+-- `lay::opposite` meets its contract: what wraps to 0 with a number is minus that number, wrapped.
 use borrow.Author.Needs.{needs}
+use Rattle.plate.proofs.Laid.{opposite-number}
 use Rattle.plate.proofs.lay.opposite.Statement.{statement}
 use Rattle.plate.proofs.lay.opposite.Tie as tie
 

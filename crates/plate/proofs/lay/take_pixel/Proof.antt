@@ -1,7 +1,8 @@
--- The opposite worth lays the pixel off.
+-- `lay::take_pixel` meets its contract: laying the opposite worth is laying minus the marks.
+use Prim.Native.Nat.{_+_, _*_}
+use borrow.Author.Needs.{needs}
 use Rattle.plate.specs.Refusal.{sizeOf}
 use Rattle.plate.proofs.Grounds.{pixel-worth, opposite-laid}
-use borrow.Author.Needs.{needs}
 use Rattle.plate.proofs.lay.take_pixel.Statement.{statement}
 use Rattle.plate.proofs.lay.take_pixel.Tie as tie
 
@@ -26,7 +27,7 @@ returns c =
       c .before .before .before .opposite .ensures,
       c .before .before .before .before .worth-of .ensures,
       opposite-laid,
-      pixel-worth (sizeOf (a .s)) _ (a .p) (a .share) (h .1) (h .0 .radius-fits),
+      pixel-worth (sizeOf (a .s)) (a .y * a .s .width + a .x) (a .p) (a .share) (h .1) (h .0 .radius-fits),
     )
 
 pub take-pixel-spec : {M : Type 1} → statement M

@@ -1,8 +1,8 @@
--- A value, an opacity and a share multiply to less than 2^64.
+-- `lay::worth_of` meets its contract: 16 bits times 8 bits times 32 bits do not wrap.
 use Prim.Native.Nat.{_*_}
 use native.Mathlib.Omega.{arith}
-use Rattle.kernels.proofs.Numbers.{product-le}
 use borrow.Author.Needs.{needs}
+use Rattle.kernels.proofs.Numbers.{product-le}
 use Rattle.plate.proofs.lay.worth_of.Statement.{statement}
 use Rattle.plate.proofs.lay.worth_of.Tie as tie
 

@@ -1,0 +1,17 @@
+-- `lay::twice` meets its contract: `wrapping_add_u64` wraps each of the two sums.
+use borrow.Author.Needs.{needs}
+use Rattle.plate.proofs.Laid.{twice-number}
+use Rattle.plate.proofs.lay.twice.Statement.{statement}
+use Rattle.plate.proofs.lay.twice.Tie as tie
+
+wrapping-add-u64-requires : tie.Need-wrapping-add-u64-requires
+wrapping-add-u64-requires c κs = search needs
+
+wrapping-add-u64-requires-2 : tie.Need-wrapping-add-u64-requires-2
+wrapping-add-u64-requires-2 c κs = search needs
+
+returns : tie.Need-returns
+returns c = rw (c .before .wrapping-add-u64 .ensures, c .wrapping-add-u642 .ensures, twice-number (c .before .before .args .w .light), twice-number (c .before .before .args .w .matte))
+
+pub twice-spec : {M : Type 1} → statement M
+twice-spec = tie.close (tie.spec wrapping-add-u64-requires wrapping-add-u64-requires-2 returns)
