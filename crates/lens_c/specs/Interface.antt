@@ -1,0 +1,39 @@
+-- The C interface: the plate's calls with C's structs for state, lens and answer.
+use mathlib.Core.List.{List}
+use Prim.Native.Nat.{ℕ}
+use Rattle.kernels.specs.declared.lens.Lens.{Lens}
+use Rattle.plate.specs.declared.state.State.{State}
+use Rattle.plate.specs.declared.state.Answer.{Answer}
+use Rattle.plate.specs.Refusal.{outcomeNumber, Lent, Views}
+use Rattle.plate.specs.Calls.{Left, Shown}
+pub use Rattle.lens_c.specs.declared.LensState.{LensState}
+pub use Rattle.lens_c.specs.declared.LensLens.{LensLens}
+pub use Rattle.lens_c.specs.declared.LensAnswer.{LensAnswer}
+
+abbrev pub stateIn : LensState → State
+stateIn s = record { width = s .width; height = s .height; reach = s .reach; count = s .count }
+
+abbrev pub stateOut : State → LensState
+stateOut s = record { width = s .width; height = s .height; reach = s .reach; count = s .count }
+
+abbrev pub lensIn : LensLens → Lens
+lensIn l = record { opening = l .opening; focal = l .focal; focus = l .focus; pitch = l .pitch }
+
+-- the paper's number for the outcome
+abbrev pub answerOut : Answer → LensAnswer
+answerOut a = record { number = outcomeNumber (a .outcome); marks = a .marks; state = stateOut (a .state) }
+
+-- what a call answers C, and what it leaves
+pub record LeftOut : Type 0 where
+  pub answer : LensAnswer
+  pub kept : Lent
+
+abbrev pub leftOut : Left → LeftOut
+leftOut l = record { answer = answerOut (l .answer); kept = l .kept }
+
+pub record ShownOut : Type 0 where
+  pub answer : LensAnswer
+  pub seen : Views
+
+abbrev pub shownOut : Shown → ShownOut
+shownOut s = record { answer = answerOut (s .answer); seen = s .seen }

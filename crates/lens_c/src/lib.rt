@@ -1,0 +1,161 @@
+// The C interface of the plate: the same calls in the same order, a slice as pointer then length. include/lens.h declares it.
+ghost use mathlib.Core.Path.{_≡_};
+ghost use Rattle.plate.specs.Layout.{Size};
+ghost use Rattle.plate.specs.Refusal.{outcomeNumber, lent, ask, inputs, views};
+ghost use Rattle.plate.specs.Calls.{openCall, putCall, undoCall, fillCall, showCall};
+ghost use Rattle.lens_c.specs.Interface.{stateIn, lensIn, answerOut, LeftOut, leftOut, ShownOut, shownOut};
+use kernels::Lens;
+use plate::Answer;
+use plate::State;
+
+#[repr(C)]
+pub struct LensState {
+    pub width: usize,
+    pub height: usize,
+    pub reach: usize,
+    pub count: usize,
+}
+
+#[repr(C)]
+pub struct LensLens {
+    pub opening: u32,
+    pub focal: u32,
+    pub focus: u32,
+    pub pitch: u32,
+}
+
+#[repr(C)]
+pub struct LensAnswer {
+    pub number: u32,
+    pub marks: u32,
+    pub state: LensState,
+}
+
+fn state_in(s: LensState) -> State
+    ensures { λ r. ⌜ r ≡ stateIn s ⌝ }
+{
+    State {
+        width: s.width,
+        height: s.height,
+        reach: s.reach,
+        count: s.count,
+    }
+}
+
+// The paper's number for an outcome.
+fn answer_out(a: Answer) -> LensAnswer
+    ensures { λ r. ⌜ r ≡ answerOut a ⌝ }
+{
+    let outcome = a.outcome;
+    LensAnswer {
+        number: plate::state::number(outcome),
+        marks: a.marks,
+        state: LensState {
+            width: a.state.width,
+            height: a.state.height,
+            reach: a.state.reach,
+            count: a.state.count,
+        },
+    }
+}
+
+#[no_mangle]
+pub extern "C" fn lens_open(
+    width: usize,
+    height: usize,
+    reach: usize,
+    planes: &mut [u64],
+    pixels: &mut [u64],
+    log: &mut [u64],
+) -> LensAnswer
+    ensures { λ r. ⌜ _≡_ {A = LeftOut} (record { answer = r; kept = lent (now (planes .exit)) (now (pixels .exit)) (now (log .exit)) }) (leftOut (openCall (record { width = width; height = height; reach = reach }) (lent (now (planes .entry)) (now (pixels .entry)) (now (log .entry))))) ⌝ }
+{
+    answer_out(plate::open::open(width, height, reach, planes, pixels, log))
+}
+
+#[no_mangle]
+pub extern "C" fn lens_put(
+    state: LensState,
+    x: usize,
+    y: usize,
+    value: u16,
+    opacity: u8,
+    shape: u8,
+    radius: u8,
+    planes: &mut [u64],
+    pixels: &mut [u64],
+    log: &mut [u64],
+) -> LensAnswer
+    ensures { λ r. ⌜ _≡_ {A = LeftOut} (record { answer = r; kept = lent (now (planes .exit)) (now (pixels .exit)) (now (log .exit)) }) (leftOut (putCall (stateIn state) (ask x y value opacity shape radius) (lent (now (planes .entry)) (now (pixels .entry)) (now (log .entry))))) ⌝ }
+{
+    answer_out(plate::put::put(
+        state_in(state),
+        x,
+        y,
+        value,
+        opacity,
+        shape,
+        radius,
+        planes,
+        pixels,
+        log,
+    ))
+}
+
+#[no_mangle]
+pub extern "C" fn lens_undo(
+    state: LensState,
+    planes: &mut [u64],
+    pixels: &mut [u64],
+    log: &mut [u64],
+) -> LensAnswer
+    ensures { λ r. ⌜ _≡_ {A = LeftOut} (record { answer = r; kept = lent (now (planes .exit)) (now (pixels .exit)) (now (log .exit)) }) (leftOut (undoCall (stateIn state) (lent (now (planes .entry)) (now (pixels .entry)) (now (log .entry))))) ⌝ }
+{
+    answer_out(plate::undo::undo(state_in(state), planes, pixels, log))
+}
+
+#[no_mangle]
+pub extern "C" fn lens_fill(
+    state: LensState,
+    lens: LensLens,
+    shape: u8,
+    values: &[u16],
+    opacities: &[u8],
+    depths: &[u32],
+    planes: &mut [u64],
+    pixels: &mut [u64],
+    log: &mut [u64],
+) -> LensAnswer
+    ensures { λ r. ⌜ _≡_ {A = LeftOut} (record { answer = r; kept = lent (now (planes .exit)) (now (pixels .exit)) (now (log .exit)) }) (leftOut (fillCall (stateIn state) (lensIn lens) shape (inputs (now (values .entry)) (now (opacities .entry)) (now (depths .entry))) (lent (now (planes .entry)) (now (pixels .entry)) (now (log .entry))))) ⌝ }
+{
+    let through = Lens {
+        opening: lens.opening,
+        focal: lens.focal,
+        focus: lens.focus,
+        pitch: lens.pitch,
+    };
+    answer_out(plate::fill::fill(
+        state_in(state),
+        through,
+        shape,
+        values,
+        opacities,
+        depths,
+        planes,
+        pixels,
+        log,
+    ))
+}
+
+#[no_mangle]
+pub extern "C" fn lens_show(
+    state: LensState,
+    planes: &[u64],
+    scratch: &mut [u64],
+    values: &mut [u16],
+    mattes: &mut [u8],
+) -> LensAnswer
+    ensures { λ r. ⌜ _≡_ {A = ShownOut} (record { answer = r; seen = views (now (scratch .exit)) (now (values .exit)) (now (mattes .exit)) }) (shownOut (showCall (stateIn state) (now (planes .entry)) (views (now (scratch .entry)) (now (values .entry)) (now (mattes .entry))))) ⌝ }
+{
+    answer_out(plate::show::show(state_in(state), planes, scratch, values, mattes))
+}

@@ -1,0 +1,157 @@
+//! Prints tables of ratios of one run.
+//!
+//! Every figure is processor time, the best of several rounds, and each round runs all that
+//! is compared in turn, so that a busy moment of the machine does not fall on one side only.
+//! The tables are Markdown.
+
+mod clock;
+mod plate;
+mod table;
+
+use plate::{Bench, Engine, engines};
+use reference::kernel::{Kernel, Shape};
+use table::{Table, milliseconds, nanoseconds, ratio};
+
+const SHAPE: Shape = Shape::Octagon;
+const REACH: usize = 64;
+const MAIN: (usize, usize) = (2_048, 1_024);
+const RADII: [usize; 4] = [0, 1, 8, 64];
+const SIZES: [(usize, usize); 5] = [(64, 64), (256, 128), (1_024, 512), MAIN, (4_096, 512)];
+
+/// Beyond so many taps the tap-by-tap program is not waited for.
+const TAPS_WAITED_FOR: u64 = 2_000_000_000;
+
+fn main() {
+    let engines = engines();
+    println!(
+        "Octagons, reach {REACH}. Processor time, the best of several rounds of one run.\n"
+    );
+    main_table(&engines);
+    radius_table(&engines);
+    size_table(&engines);
+}
+
+/// Fill, show and put + undo on the main size, with radii by a ramp of depths.
+fn main_table(engines: &[Engine]) {
+    let (width, height) = MAIN;
+    let mut bench = Bench::new(width, height, REACH);
+    bench.lay_depth_ramp();
+    let times = bench.run(engines, SHAPE, 15);
+    let handmade = times.engines.last().expect("the handmade engine is always there");
+    println!("## {width} × {height}, radii 0 to 64 by a ramp of depths\n");
+    let mut table = Table::new(&["call", "engine", "to handmade", "to one read", "time"]);
+    for (engine, time) in engines.iter().zip(&times.engines) {
+        table.row([
+            "fill".into(),
+            engine.name.into(),
+            ratio(time.fill, handmade.fill),
+            ratio(time.fill, times.read),
+            milliseconds(time.fill),
+        ]);
+        table.row([
+            "show".into(),
+            engine.name.into(),
+            ratio(time.show, handmade.show),
+            ratio(time.show, times.read),
+            milliseconds(time.show),
+        ]);
+        table.row([
+            "put + undo".into(),
+            engine.name.into(),
+            ratio(time.put_undo, handmade.put_undo),
+            String::new(),
+            nanoseconds(time.put_undo),
+        ]);
+    }
+    table.row([
+        "pure read of the 14 planes".into(),
+        String::new(),
+        String::new(),
+        ratio(times.read, times.read),
+        milliseconds(times.read),
+    ]);
+    table.print();
+    let gigabytes = bench.planes_bytes() as f64 / times.read.as_secs_f64() / 1e9;
+    println!("The pure read runs at {gigabytes:.1} GB/s.\n");
+}
+
+/// The main size with one radius for all pixels.
+fn radius_table(engines: &[Engine]) {
+    let (width, height) = MAIN;
+    println!("## {width} × {height}, one radius for all pixels\n");
+    let mut table = Table::new(&[
+        "radius",
+        "engine",
+        "fill to radius 0",
+        "show to radius 0",
+        "put + undo to radius 0",
+        "tap by tap to fill + show",
+        "fill",
+        "show",
+        "put + undo",
+        "tap by tap",
+    ]);
+    let mut bench = Bench::new(width, height, REACH);
+    let mut at_zero = None;
+    for radius in RADII {
+        bench.lay_radius(radius);
+        let times = bench.run(engines, SHAPE, 9);
+        let at_zero = at_zero.get_or_insert_with(|| times.engines.clone());
+        let taps = Kernel::of(SHAPE, radius).area() * (width * height) as u64;
+        let tap_by_tap = (taps < TAPS_WAITED_FOR).then(|| bench.tap_by_tap(SHAPE, radius));
+        for ((engine, time), zero) in engines.iter().zip(&times.engines).zip(at_zero) {
+            table.row([
+                radius.to_string(),
+                engine.name.into(),
+                ratio(time.fill, zero.fill),
+                ratio(time.show, zero.show),
+                ratio(time.put_undo, zero.put_undo),
+                tap_by_tap.map_or("not run".into(), |taps| ratio(taps, time.fill + time.show)),
+                milliseconds(time.fill),
+                milliseconds(time.show),
+                nanoseconds(time.put_undo),
+                tap_by_tap.map_or("not run".into(), milliseconds),
+            ]);
+        }
+    }
+    table.print();
+}
+
+/// Other plates, all pixels of radius 64.
+fn size_table(engines: &[Engine]) {
+    println!("## Plate sizes, radius 64 for all pixels\n");
+    let mut table = Table::new(&[
+        "plate",
+        "engine",
+        "fill to one read",
+        "show to one read",
+        "tap by tap to fill + show",
+        "fill",
+        "show",
+        "put + undo",
+        "read",
+        "tap by tap",
+    ]);
+    for (width, height) in SIZES {
+        let mut bench = Bench::new(width, height, REACH);
+        bench.lay_radius(64);
+        let times = bench.run(engines, SHAPE, 9);
+        let taps = Kernel::of(SHAPE, 64).area() * (width * height) as u64;
+        let tap_by_tap = (taps < TAPS_WAITED_FOR).then(|| bench.tap_by_tap(SHAPE, 64));
+        for (engine, time) in engines.iter().zip(&times.engines) {
+            table.row([
+                format!("{width} × {height}"),
+                engine.name.into(),
+                ratio(time.fill, times.read),
+                ratio(time.show, times.read),
+                tap_by_tap.map_or("not run".into(), |taps| ratio(taps, time.fill + time.show)),
+                milliseconds(time.fill),
+                milliseconds(time.show),
+                nanoseconds(time.put_undo),
+                milliseconds(times.read),
+                tap_by_tap.map_or("not run".into(), milliseconds),
+            ]);
+        }
+    }
+    table.print();
+}

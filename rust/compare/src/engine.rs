@@ -1,0 +1,195 @@
+//! The five calls as a trait, in the reference's types.
+
+#[cfg(feature = "proved")]
+use lens::raw;
+use reference::{Answer, Fill, Lens, Put, State, stored};
+
+pub trait Engine {
+    const NAME: &'static str;
+
+    fn open(
+        width: usize,
+        height: usize,
+        reach: usize,
+        planes: &mut [u64],
+        pixels: &mut [u64],
+        log: &mut [u64],
+    ) -> Answer;
+
+    fn put(
+        state: State,
+        put: Put,
+        planes: &mut [u64],
+        pixels: &mut [u64],
+        log: &mut [u64],
+    ) -> Answer;
+
+    fn undo(state: State, planes: &mut [u64], pixels: &mut [u64], log: &mut [u64]) -> Answer;
+
+    fn fill(
+        state: State,
+        fill: &Fill,
+        planes: &mut [u64],
+        pixels: &mut [u64],
+        log: &mut [u64],
+    ) -> Answer;
+
+    fn show(
+        state: State,
+        planes: &[u64],
+        scratch: &mut [u64],
+        values: &mut [u16],
+        mattes: &mut [u8],
+    ) -> Answer;
+}
+
+/// The proved engine, through its C interface.
+#[cfg(feature = "proved")]
+pub struct Proved;
+
+/// The same method written by hand.
+pub struct Handmade;
+
+/// The reference's own reading of what each call leaves: an engine too, only slow.
+pub struct Stored;
+
+/// Makes an engine of a module that mirrors the C interface.
+macro_rules! mirror {
+    ($engine:ident, $name:literal, $module:ident) => {
+        impl Engine for $engine {
+            const NAME: &'static str = $name;
+
+            fn open(
+                width: usize,
+                height: usize,
+                reach: usize,
+                planes: &mut [u64],
+                pixels: &mut [u64],
+                log: &mut [u64],
+            ) -> Answer {
+                let answer = $module::open(width, height, reach, planes, pixels, log);
+                $engine::answer(answer)
+            }
+
+            fn put(
+                state: State,
+                put: Put,
+                planes: &mut [u64],
+                pixels: &mut [u64],
+                log: &mut [u64],
+            ) -> Answer {
+                let state = $engine::state(state);
+                let Put { x, y, value, opacity, shape, radius } = put;
+                let answer = $module::put(
+                    state, x, y, value, opacity, shape, radius, planes, pixels, log,
+                );
+                $engine::answer(answer)
+            }
+
+            fn undo(
+                state: State,
+                planes: &mut [u64],
+                pixels: &mut [u64],
+                log: &mut [u64],
+            ) -> Answer {
+                let answer = $module::undo($engine::state(state), planes, pixels, log);
+                $engine::answer(answer)
+            }
+
+            fn fill(
+                state: State,
+                fill: &Fill,
+                planes: &mut [u64],
+                pixels: &mut [u64],
+                log: &mut [u64],
+            ) -> Answer {
+                let state = $engine::state(state);
+                let &Fill { lens, shape, values, opacities, depths } = fill;
+                let Lens { opening, focal, focus, pitch } = lens;
+                let lens = $module::Lens { opening, focal, focus, pitch };
+                let answer = $module::fill(
+                    state, lens, shape, values, opacities, depths, planes, pixels, log,
+                );
+                $engine::answer(answer)
+            }
+
+            fn show(
+                state: State,
+                planes: &[u64],
+                scratch: &mut [u64],
+                values: &mut [u16],
+                mattes: &mut [u8],
+            ) -> Answer {
+                let state = $engine::state(state);
+                let answer = $module::show(state, planes, scratch, values, mattes);
+                $engine::answer(answer)
+            }
+        }
+
+        impl $engine {
+            fn state(state: State) -> $module::State {
+                let State { width, height, reach, count } = state;
+                $module::State { width, height, reach, count }
+            }
+
+            fn answer(answer: $module::Answer) -> Answer {
+                let $module::Answer { number, marks, state } = answer;
+                let $module::State { width, height, reach, count } = state;
+                Answer { number, marks, state: State { width, height, reach, count } }
+            }
+        }
+    };
+}
+
+#[cfg(feature = "proved")]
+mirror!(Proved, "proved", raw);
+mirror!(Handmade, "handmade", handmade);
+
+impl Engine for Stored {
+    const NAME: &'static str = "reference";
+
+    fn open(
+        width: usize,
+        height: usize,
+        reach: usize,
+        planes: &mut [u64],
+        pixels: &mut [u64],
+        log: &mut [u64],
+    ) -> Answer {
+        stored::open(State { width, height, reach, count: 0 }, planes, pixels, log)
+    }
+
+    fn put(
+        state: State,
+        put: Put,
+        planes: &mut [u64],
+        pixels: &mut [u64],
+        log: &mut [u64],
+    ) -> Answer {
+        stored::put(state, put, planes, pixels, log)
+    }
+
+    fn undo(state: State, planes: &mut [u64], pixels: &mut [u64], log: &mut [u64]) -> Answer {
+        stored::undo(state, planes, pixels, log)
+    }
+
+    fn fill(
+        state: State,
+        fill: &Fill,
+        planes: &mut [u64],
+        pixels: &mut [u64],
+        log: &mut [u64],
+    ) -> Answer {
+        stored::fill(state, fill, planes, pixels, log)
+    }
+
+    fn show(
+        state: State,
+        planes: &[u64],
+        scratch: &mut [u64],
+        values: &mut [u16],
+        mattes: &mut [u8],
+    ) -> Answer {
+        stored::show(state, planes, scratch, values, mattes)
+    }
+}

@@ -1,0 +1,21 @@
+//! What the comparisons in `tests/` stand on: engines behind one trait, buffers between
+//! guard cells, calls made at random, and a list of calls held against the notebook.
+
+pub mod engine;
+pub mod guard;
+pub mod list;
+pub mod random;
+pub mod step;
+
+use std::io::Write;
+use std::path::{Path, PathBuf};
+
+/// Prints a line even where the test harness holds back what passing tests print.
+pub fn say(line: &str) {
+    writeln!(std::io::stderr(), "{line}").expect("standard error can be written");
+}
+
+/// The folder of the repository, above this workspace.
+pub fn repository() -> PathBuf {
+    Path::new(env!("CARGO_MANIFEST_DIR")).join("../..")
+}

@@ -1,0 +1,161 @@
+//! A list of calls on one plate, held against the notebook.
+
+use std::fmt;
+
+use reference::marks::{Layout, marks_of_grid};
+use reference::notebook::Notebook;
+use reference::pixel::entry;
+use reference::spread::Pictures;
+use reference::{Answer, State};
+
+use crate::engine::Engine;
+use crate::guard::{Guarded, PlateBuffers, ShowBuffers};
+use crate::random::Random;
+use crate::step::Step;
+
+/// What was tried.
+#[derive(Default)]
+pub struct Tally {
+    pub lists: usize,
+    puts: usize,
+    undos: usize,
+    fills: usize,
+    shows: usize,
+    /// By number; 0 counts the accepted calls.
+    numbers: [usize; 13],
+    cells: usize,
+}
+
+impl Tally {
+    fn count(&mut self, step: &Step, number: u32) {
+        match step {
+            Step::Put(_) => self.puts += 1,
+            Step::Undo => self.undos += 1,
+            Step::Fill(_) => self.fills += 1,
+            Step::Show { .. } => self.shows += 1,
+        }
+        self.numbers[number as usize] += 1;
+    }
+}
+
+impl fmt::Display for Tally {
+    fn fmt(&self, f: &mut fmt::Formatter<'_>) -> fmt::Result {
+        let Tally { lists, puts, undos, fills, shows, numbers, cells } = self;
+        write!(f, "{lists} lists: {puts} puts, {undos} undos, {fills} fills, {shows} shows; ")?;
+        write!(f, "{} accepted, refused", numbers[0])?;
+        for (number, times) in numbers.iter().enumerate().skip(1) {
+            if *times > 0 {
+                write!(f, " {number}: {times}")?;
+            }
+        }
+        write!(f, "; {cells} plane cells compared")
+    }
+}
+
+/// Opens a plate, makes the calls, and compares: after each call number, marks, state and
+/// guards, and that a refused one changed nothing; for each show both pictures; after the
+/// list every cell of planes, pixels and log.
+pub fn run<E: Engine>(
+    sizes: State,
+    room: usize,
+    steps: &[Step],
+    random: &mut Random,
+    tally: &mut Tally,
+) {
+    let mut list = List::open::<E>(sizes, room, random);
+    for (index, step) in steps.iter().enumerate() {
+        let number = list.step::<E>(index, step, random);
+        tally.count(step, number);
+    }
+    list.compare_stored(E::NAME);
+    tally.lists += 1;
+    tally.cells += list.plate.planes.len();
+}
+
+/// The notebook, and beside it the plate as the call before left it.
+struct List {
+    notebook: Notebook,
+    plate: PlateBuffers,
+    state: State,
+}
+
+impl List {
+    fn open<E: Engine>(sizes: State, room: usize, random: &mut Random) -> List {
+        let State { width, height, reach, .. } = sizes;
+        let layout = Layout::of(width, height, reach);
+        let mut plate = PlateBuffers {
+            planes: Guarded::garbage(layout.all_planes(), random),
+            pixels: Guarded::garbage(width * height, random),
+            log: Guarded::garbage(room, random),
+        };
+        let PlateBuffers { planes, pixels, log } = &mut plate;
+        let answer = E::open(width, height, reach, planes, pixels, log);
+        let state = State { count: 0, ..sizes };
+        assert_eq!(answer, Answer { number: 0, marks: 0, state }, "{}: open", E::NAME);
+        List { notebook: Notebook::open(width, height, reach, room), plate, state }
+    }
+
+    /// Makes one call and compares it; its number.
+    fn step<E: Engine>(&mut self, index: usize, step: &Step, random: &mut Random) -> u32 {
+        let call = || format!("{}, call {index} on {:?}: {step:?}", E::NAME, self.state);
+        let (report, pictures) = step.tell(&mut self.notebook);
+        let before = (report.number != 0).then(|| self.plate.clone());
+        let PlateBuffers { planes, pixels, log } = &mut self.plate;
+        let answer = match step {
+            Step::Put(put) => E::put(self.state, *put, planes, pixels, log),
+            Step::Undo => E::undo(self.state, planes, pixels, log),
+            Step::Fill(inputs) => E::fill(self.state, &inputs.as_fill(), planes, pixels, log),
+            &Step::Show { scratch, values, mattes } => {
+                let lent = ShowBuffers::garbage(scratch, values, mattes, random);
+                show::<E>(self.state, planes, lent, pictures)
+            }
+        };
+        let expected = Answer {
+            number: report.number,
+            marks: report.marks,
+            state: State { count: self.notebook.pile.len(), ..self.state },
+        };
+        assert_eq!(answer, expected, "{}", call());
+        assert!(self.plate.guards_hold(), "cells beyond a buffer changed: {}", call());
+        if let Some(before) = before {
+            assert!(self.plate.same_cells(&before), "a refused call wrote: {}", call());
+        }
+        self.state = answer.state;
+        report.number
+    }
+
+    fn compare_stored(&self, name: &str) {
+        let sizes = self.state;
+        let Notebook { grid, reach, pile, room } = &self.notebook;
+        let planes = marks_of_grid(grid, *reach);
+        assert!(self.plate.planes[..] == planes, "{name}: planes of {sizes:?}");
+        let words: Vec<u64> = grid.pixels.iter().map(|pixel| pixel.word()).collect();
+        assert!(self.plate.pixels[..] == words, "{name}: pixels of {sizes:?}");
+        let mut log: Vec<u64> =
+            pile.iter().map(|&(place, pixel)| entry(place, pixel)).collect();
+        log.resize(*room, 0);
+        assert!(self.plate.log[..] == log, "{name}: log of {sizes:?}");
+    }
+}
+
+/// A show, compared with the plain pictures; if there are none, it must write nothing.
+fn show<E: Engine>(
+    state: State,
+    planes: &[u64],
+    mut lent: ShowBuffers,
+    pictures: Option<Pictures>,
+) -> Answer {
+    let before = lent.clone();
+    let ShowBuffers { scratch, values, mattes } = &mut lent;
+    let answer = E::show(state, planes, scratch, values, mattes);
+    match pictures {
+        Some(pictures) => {
+            assert!(values[..] == pictures.values, "{}: values of {state:?}", E::NAME);
+            assert!(mattes[..] == pictures.mattes, "{}: mattes of {state:?}", E::NAME);
+            assert!(scratch.iter().all(|&cell| cell == 0), "{}: scratch", E::NAME);
+        }
+        None => assert!(lent.same_cells(&before), "{}: a refused show wrote", E::NAME),
+    }
+    assert!(lent.guards_hold(), "{}: show wrote beyond its buffers", E::NAME);
+    answer
+}

@@ -1,0 +1,240 @@
+//! Calls made at random, lawful ones and unlawful ones, for a plate of given sizes.
+
+use reference::kernel::Shape;
+use reference::marks::Layout;
+use reference::notebook::{Notebook, Report};
+use reference::radius::FARTHEST;
+use reference::spread::Pictures;
+use reference::{Fill, Lens, Put};
+
+use crate::random::Random;
+
+/// One call after open, with its arguments.
+#[derive(Clone, Debug)]
+pub enum Step {
+    Put(Put),
+    Undo,
+    Fill(Inputs),
+    Show { scratch: usize, values: usize, mattes: usize },
+}
+
+/// Fill's arguments, with its three inputs.
+#[derive(Clone, Debug)]
+pub struct Inputs {
+    pub lens: Lens,
+    pub shape: u8,
+    pub values: Vec<u16>,
+    pub opacities: Vec<u8>,
+    pub depths: Vec<u32>,
+}
+
+impl Inputs {
+    pub fn as_fill(&self) -> Fill<'_> {
+        Fill {
+            lens: self.lens,
+            shape: self.shape,
+            values: &self.values,
+            opacities: &self.opacities,
+            depths: &self.depths,
+        }
+    }
+}
+
+impl Step {
+    /// A show that is lent the right lengths.
+    pub fn show(width: usize, height: usize, reach: usize) -> Step {
+        let scratch = 3 * Layout::of(width, height, reach).cells();
+        Step::Show { scratch, values: width * height, mattes: width * height }
+    }
+
+    /// What the notebook says of this call, with the plain pictures of an accepted show.
+    pub fn tell(&self, notebook: &mut Notebook) -> (Report, Option<Pictures>) {
+        match self {
+            Step::Put(put) => (notebook.put(*put), None),
+            Step::Undo => (notebook.undo(), None),
+            Step::Fill(inputs) => (notebook.fill(&inputs.as_fill()), None),
+            &Step::Show { scratch, values, mattes } => notebook.show(scratch, values, mattes),
+        }
+    }
+}
+
+/// One argument in this many is unlawful, so that calls with two faults come up too.
+const FAULT: usize = 14;
+
+/// The lens of the paper's examples: radius 64 at infinity, 0 at 2 m.
+pub const PAPER_LENS: Lens = Lens { opening: 250, focal: 500, focus: 20_000, pitch: 50 };
+
+/// Makes calls for plates of one size.
+pub struct Maker<'a> {
+    pub random: &'a mut Random,
+    pub width: usize,
+    pub height: usize,
+    pub reach: usize,
+}
+
+impl Maker<'_> {
+    pub fn step(&mut self) -> Step {
+        match self.random.below(10) {
+            0..5 => Step::Put(self.put()),
+            5..7 => Step::Undo,
+            7 => Step::Fill(self.inputs()),
+            _ => {
+                let [scratch, values, mattes] = self.show_lengths();
+                Step::Show { scratch, values, mattes }
+            }
+        }
+    }
+
+    pub fn put(&mut self) -> Put {
+        let shape = self.shape();
+        Put {
+            x: self.place(self.width),
+            y: self.place(self.height),
+            value: self.value(FAULT),
+            opacity: self.opacity(),
+            shape,
+            radius: self.radius(shape),
+        }
+    }
+
+    /// Lengths of scratch, values and mattes to lend to show.
+    pub fn show_lengths(&mut self) -> [usize; 3] {
+        let cells = self.width * self.height;
+        let scratch = 3 * Layout::of(self.width, self.height, self.reach).cells();
+        [scratch, cells, cells].map(|right| self.length(right))
+    }
+
+    pub fn inputs(&mut self) -> Inputs {
+        let cells = self.width * self.height;
+        let values = self.length(cells);
+        let opacities = self.length(cells);
+        let depths = self.length(cells);
+        Inputs {
+            lens: self.lens(),
+            shape: self.shape(),
+            values: self.values(values),
+            opacities: (0..opacities).map(|_| self.opacity()).collect(),
+            depths: self.depths(depths),
+        }
+    }
+
+    /// The right length, mostly.
+    pub fn length(&mut self, right: usize) -> usize {
+        if self.random.once_in(2 * FAULT) {
+            self.random.pick(&[0, right - 1, right + 1, 2 * right])
+        } else {
+            right
+        }
+    }
+
+    /// A column or a row. Some that are outside would be inside if cut to 32 bits.
+    fn place(&mut self, end: usize) -> usize {
+        if self.random.once_in(FAULT) {
+            self.random.pick(&[end, end + 1, 1 << 32, usize::MAX])
+        } else {
+            self.random.below(end)
+        }
+    }
+
+    fn value(&mut self, fault: usize) -> u16 {
+        if self.random.once_in(fault) {
+            return self.random.pick(&[4_096, 4_097, 8_191, u16::MAX]);
+        }
+        match self.random.below(8) {
+            0 => 0,
+            1 => 4_095,
+            _ => self.random.below(4_096) as u16,
+        }
+    }
+
+    fn opacity(&mut self) -> u8 {
+        match self.random.below(4) {
+            0 => 255,
+            1 => self.random.pick(&[0, 1, 254]),
+            _ => self.random.bits() as u8,
+        }
+    }
+
+    fn shape(&mut self) -> u8 {
+        if self.random.once_in(FAULT) {
+            self.random.pick(&[6, 7, 15, 16, 255])
+        } else {
+            self.random.below(6) as u8
+        }
+    }
+
+    fn radius(&mut self, shape: u8) -> u8 {
+        let shape = Shape::from_number(shape).unwrap_or(Shape::Box);
+        let top = shape.top_under(self.reach);
+        if self.random.once_in(FAULT) {
+            return self.random.pick(&[top + 1, 65, 128, 255]) as u8;
+        }
+        match self.random.below(4) {
+            0 => top as u8,
+            1 => self.random.below(top.min(4) + 1) as u8,
+            _ => self.random.below(top + 1) as u8,
+        }
+    }
+
+    fn values(&mut self, length: usize) -> Vec<u16> {
+        let mut values: Vec<u16> = (0..length).map(|_| self.value(usize::MAX)).collect();
+        if length > 0 && self.random.once_in(FAULT) {
+            values[self.random.below(length)] = self.value(1);
+        }
+        values
+    }
+
+    pub fn lens(&mut self) -> Lens {
+        let mut lens = match self.random.below(3) {
+            0 => PAPER_LENS,
+            1 => self.any_lens(4_000, FARTHEST as usize, 1_000),
+            // Small numbers, whose quotients are often halves.
+            _ => self.any_lens(8, 40, 1_000),
+        };
+        if self.random.once_in(FAULT) {
+            let outside = |random: &mut Random, top: u32| random.pick(&[0, top + 1, u32::MAX]);
+            match self.random.below(4) {
+                0 => lens.opening = outside(self.random, 4_000),
+                1 => lens.focal = outside(self.random, 4_000),
+                2 => {
+                    lens.focus =
+                        self.random.pick(&[0, lens.focal - 1, lens.focal, FARTHEST + 1])
+                }
+                _ => lens.pitch = outside(self.random, 1_000),
+            }
+        }
+        lens
+    }
+
+    /// A lawful lens with opening and focal length, focus and pitch up to these.
+    fn any_lens(&mut self, glass: usize, focus: usize, pitch: usize) -> Lens {
+        let focal = self.random.within(1, glass);
+        Lens {
+            opening: self.random.within(1, glass) as u32,
+            focal: focal as u32,
+            focus: self.random.within(focal + 1, focus) as u32,
+            pitch: self.random.within(1, pitch) as u32,
+        }
+    }
+
+    fn depths(&mut self, length: usize) -> Vec<u32> {
+        let farthest = FARTHEST as usize;
+        let (first, last) = self.random.pick(&[
+            (0, farthest),
+            (0, 100),
+            (1, 60_000),
+            (18_000, 23_000),
+            (20_000, 20_000),
+            (farthest, farthest),
+        ]);
+        let mut depths: Vec<u32> =
+            (0..length).map(|_| self.random.within(first, last) as u32).collect();
+        if length > 0 && self.random.once_in(4) {
+            depths[self.random.below(length)] = 0;
+        }
+        if length > 0 && self.random.once_in(FAULT) {
+            depths[self.random.below(length)] = self.random.pick(&[FARTHEST + 1, u32::MAX]);
+        }
+        depths
+    }
+}

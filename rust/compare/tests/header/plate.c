@@ -1,0 +1,50 @@
+/* The plate of the paper's section Records, by the C interface. Compiled as C and as C++. */
+#include "lens.h"
+
+#include <stdio.h>
+
+enum { W = 3, H = 1, R = 1, P = (W + 2 * R + 6) * (H + 2 * R + 6), LOG = 2 };
+
+static uint64_t planes[14 * P], pixels[W * H], undo_log[LOG], scratch[3 * P];
+static uint16_t values[W * H];
+static uint8_t mattes[W * H];
+
+static lens_state put(lens_state state, size_t x, uint16_t value, uint8_t radius)
+{
+    lens_answer answer = lens_put(state, x, 0, value, 255, 0, radius, planes, 14 * P, pixels,
+                                  W * H, undo_log, LOG);
+    printf("put %u %u count %u\n", (unsigned)answer.number, (unsigned)answer.marks,
+           (unsigned)answer.state.count);
+    return answer.state;
+}
+
+static void show(lens_state state)
+{
+    lens_answer answer =
+        lens_show(state, planes, 14 * P, scratch, 3 * P, values, W * H, mattes, W * H);
+    printf("show %u:", (unsigned)answer.number);
+    for (int i = 0; i < W * H; i++)
+        printf(" %u/%u", (unsigned)values[i], (unsigned)mattes[i]);
+    printf("\n");
+}
+
+int main(void)
+{
+    lens_lens lens = { 250, 500, 20000, 50 };
+    const uint16_t layer[W * H] = { 7, 8, 9 };
+    const uint8_t opacities[W * H] = { 255, 255, 255 };
+    const uint32_t depths[W * H] = { 20000, 20000, 20000 };
+    lens_state state =
+        lens_open(W, H, R, planes, 14 * P, pixels, W * H, undo_log, LOG).state;
+    state = put(state, 1, 100, 1);
+    state = put(state, 0, 40, 0);
+    state = put(state, 0, 40, 0);
+    show(state);
+    state = lens_undo(state, planes, 14 * P, pixels, W * H, undo_log, LOG).state;
+    show(state);
+    state = lens_fill(state, lens, 5, layer, W * H, opacities, W * H, depths, W * H, planes,
+                      14 * P, pixels, W * H, undo_log, LOG)
+                .state;
+    show(state);
+    return 0;
+}

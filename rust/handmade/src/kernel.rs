@@ -1,0 +1,210 @@
+//! Shapes, shares, and the marks of a pixel.
+
+use crate::layout::Layout;
+use crate::word::Pixel;
+
+const SHAPES: usize = 6;
+const TOP: usize = 64;
+
+/// The table's marks, by shape.
+pub(crate) const MARKS: [u32; SHAPES] = [4, 9, 16, 8, 12, 12];
+
+const TOPS: [usize; SHAPES] = [TOP, 8, 3, TOP, TOP, TOP];
+const BOXES: [usize; SHAPES] = [1, 2, 3, 1, 1, 1];
+
+pub(crate) fn is_shape(shape: u8) -> bool {
+    usize::from(shape) < SHAPES
+}
+
+/// The greatest radius of a shape on a plate of this reach.
+pub(crate) fn top_under(shape: u8, reach: usize) -> usize {
+    TOPS[usize::from(shape)].min(reach / BOXES[usize::from(shape)])
+}
+
+/// The shares by shape and radius, 0 above the shape's top.
+static SHARES: [[u32; TOP + 1]; SHAPES] = shares();
+
+const fn shares() -> [[u32; TOP + 1]; SHAPES] {
+    let mut shares = [[0; TOP + 1]; SHAPES];
+    let mut shape = 0;
+    while shape < SHAPES {
+        let mut radius = 0;
+        while radius <= TOPS[shape] {
+            shares[shape][radius] = 8_388_608 / area(shape, radius as u32);
+            radius += 1;
+        }
+        shape += 1;
+    }
+    shares
+}
+
+/// The sum of all taps: a power of the box's side, or the heights of all columns.
+const fn area(shape: usize, r: u32) -> u32 {
+    let side = 2 * r + 1;
+    if shape < 3 {
+        return side.pow(2 * BOXES[shape] as u32);
+    }
+    let t = r / 2;
+    let mut area = 0;
+    let mut column = 0;
+    while column < side {
+        let dx = column.abs_diff(r);
+        let height = match shape {
+            3 => r - dx,
+            4 => min(2 * t, 2 * (r - dx)),
+            _ => min(r, r + t - dx),
+        };
+        area += 2 * height + 1;
+        column += 1;
+    }
+    area
+}
+
+const fn min(a: u32, b: u32) -> u32 {
+    if a < b { a } else { b }
+}
+
+/// What a mark of factor 1 is worth.
+#[derive(Clone, Copy)]
+pub(crate) struct Worth {
+    light: u64,
+    matte: u64,
+}
+
+impl Worth {
+    #[inline]
+    pub fn of(pixel: Pixel) -> Worth {
+        let share = SHARES[usize::from(pixel.shape)][usize::from(pixel.radius)];
+        let matte = u64::from(pixel.opacity) * u64::from(share);
+        Worth { light: matte * u64::from(pixel.value), matte }
+    }
+
+    pub fn negated(self) -> Worth {
+        Worth { light: self.light.wrapping_neg(), matte: self.matte.wrapping_neg() }
+    }
+
+    #[inline]
+    fn times(self, factor: i64) -> Worth {
+        let factor = factor as u64;
+        Worth { light: self.light.wrapping_mul(factor), matte: self.matte.wrapping_mul(factor) }
+    }
+}
+
+/// The planes of one picture: slope d is 2 + d.
+const LEVEL: usize = 2;
+const SECOND: usize = 5;
+const THIRD: usize = 6;
+const PICTURE: usize = 7;
+
+/// Lays the marks of a pixel whose cell is `center`.
+pub(crate) fn lay(
+    planes: &mut [u64],
+    layout: Layout,
+    center: usize,
+    pixel: Pixel,
+    worth: Worth,
+) {
+    let mut pen = Pen { planes, layout, center, worth };
+    match pixel.shape {
+        0 => pen.lay::<0>(pixel.radius),
+        1 => pen.lay::<1>(pixel.radius),
+        2 => pen.lay::<2>(pixel.radius),
+        3 => pen.lay::<3>(pixel.radius),
+        4 => pen.lay::<4>(pixel.radius),
+        _ => pen.lay::<5>(pixel.radius),
+    }
+}
+
+/// The outline of a shape whose columns rise, stay level and fall.
+struct Outline {
+    /// Rows per sloping column.
+    slope: isize,
+    /// The half-height of the first column, at -r.
+    edge: isize,
+    /// How many columns rise.
+    rise: isize,
+    r: isize,
+}
+
+/// Lays marks around one cell.
+pub(crate) struct Pen<'a> {
+    pub planes: &'a mut [u64],
+    pub layout: Layout,
+    pub center: usize,
+    pub worth: Worth,
+}
+
+impl Pen<'_> {
+    /// The shape is known where this is compiled, so that the loop over all pixels of a
+    /// fill has straight code for it.
+    #[inline]
+    pub fn lay<const SHAPE: u8>(&mut self, radius: u8) {
+        let r = radius as isize;
+        let t = r / 2;
+        match SHAPE {
+            0 => self.boxes(LEVEL, r, [1, -1]),
+            1 => self.boxes(SECOND, r, [1, -2, 1]),
+            2 => self.boxes(THIRD, r, [1, -3, 3, -1]),
+            3 => self.outline(Outline { slope: 1, edge: 0, rise: r, r }, false),
+            4 => self.outline(Outline { slope: 2, edge: 0, rise: t, r }, true),
+            _ => self.outline(Outline { slope: 1, edge: t, rise: r - t, r }, true),
+        }
+    }
+
+    /// N - 1 boxes convolved: a grid of N × N marks.
+    #[inline]
+    fn boxes<const N: usize>(&mut self, plane: usize, r: isize, factors: [i64; N]) {
+        let first = -(N as isize - 1) * r;
+        let step = 2 * r + 1;
+        for (j, down) in factors.into_iter().enumerate() {
+            for (i, across) in factors.into_iter().enumerate() {
+                let column = first + i as isize * step;
+                let row = first + j as isize * step;
+                self.mark(plane, column, row, down * across);
+            }
+        }
+    }
+
+    /// The top line counts plus. The bottom line counts minus and is the top line upside
+    /// down, the row y at 1 - y.
+    #[inline]
+    fn outline(&mut self, outline: Outline, level: bool) {
+        let Outline { slope, edge, rise, r } = outline;
+        let (left, right) = (rise - r, r - rise);
+        let (start, top) = (-edge, -edge - slope * rise);
+        let end = top + slope * (rise + 1);
+        let [up, down] = [2 - slope as usize, 2 + slope as usize];
+        for (sign, rising, falling, flip) in [(1, up, down, false), (-1, down, up, true)] {
+            let row = |y: isize| if flip { 1 - y } else { y };
+            self.mark(rising, -r, row(start), sign);
+            self.mark(rising, left, row(top), -sign);
+            if level {
+                self.mark(LEVEL, left, row(top), sign);
+                self.mark(LEVEL, right, row(top), -sign);
+            }
+            self.mark(falling, right, row(top), sign);
+            self.mark(falling, r + 1, row(end), -sign);
+        }
+    }
+
+    #[inline]
+    fn mark(&mut self, plane: usize, column: isize, row: isize, factor: i64) {
+        let offset = row * self.layout.stride as isize + column;
+        let cell = plane * self.layout.cells + self.center.wrapping_add_signed(offset);
+        let matte_cell = cell + PICTURE * self.layout.cells;
+        let worth = self.worth.times(factor);
+        debug_assert!(matte_cell < self.planes.len());
+        // Safety: every call has checked that there are 14 padded planes and that the
+        // kernel reaches no farther than the plate's reach; its marks are then at most
+        // three cells farther out, inside the padding.
+        unsafe {
+            add(self.planes.get_unchecked_mut(cell), worth.light);
+            add(self.planes.get_unchecked_mut(matte_cell), worth.matte);
+        }
+    }
+}
+
+#[inline]
+fn add(cell: &mut u64, worth: u64) {
+    *cell = cell.wrapping_add(worth);
+}

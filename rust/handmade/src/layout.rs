@@ -1,0 +1,48 @@
+//! Where things lie in the padded planes.
+
+use crate::State;
+
+#[derive(Clone, Copy)]
+pub(crate) struct Layout {
+    pub width: usize,
+    pub height: usize,
+    /// The image's first column and row.
+    pub margin: usize,
+    /// Columns of a padded plane: the step from a cell to the one below it.
+    pub stride: usize,
+    pub rows: usize,
+    /// Cells of a padded plane, the paper's P.
+    pub cells: usize,
+}
+
+impl Layout {
+    /// The layout of lawful sizes.
+    pub fn of(state: State) -> Layout {
+        let margin = state.reach + 3;
+        let stride = state.width + 2 * margin;
+        let rows = state.height + 2 * margin;
+        Layout {
+            width: state.width,
+            height: state.height,
+            margin,
+            stride,
+            rows,
+            cells: stride * rows,
+        }
+    }
+
+    /// The column after the image's last.
+    pub fn image_end_column(self) -> usize {
+        self.margin + self.width
+    }
+
+    /// The row after the image's last.
+    pub fn image_end_row(self) -> usize {
+        self.margin + self.height
+    }
+
+    /// The cell of image pixel (x, y) in a plane.
+    pub fn center(self, x: usize, y: usize) -> usize {
+        (y + self.margin) * self.stride + x + self.margin
+    }
+}

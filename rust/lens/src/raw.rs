@@ -1,0 +1,231 @@
+//! The C interface (`include/lens.h`), and the same calls on slices.
+//!
+//! Nothing is checked on this side: the engine takes any state and any lengths, and
+//! refuses what does not fit.
+
+/// The sizes of a plate, and how many entries its undo log holds.
+#[repr(C)]
+#[derive(Clone, Copy, Debug, Default, PartialEq, Eq)]
+pub struct State {
+    pub width: usize,
+    pub height: usize,
+    pub reach: usize,
+    pub count: usize,
+}
+
+/// A thin lens: opening, focal length and focus in 0.1 mm, pitch in 0.1 µm.
+#[repr(C)]
+#[derive(Clone, Copy, Debug, PartialEq, Eq)]
+pub struct Lens {
+    pub opening: u32,
+    pub focal: u32,
+    pub focus: u32,
+    pub pitch: u32,
+}
+
+/// What every call answers.
+#[repr(C)]
+#[derive(Clone, Copy, Debug, PartialEq, Eq)]
+pub struct Answer {
+    /// 0, or the number of the refusal.
+    pub number: u32,
+    /// The marks that put or undo moved.
+    pub marks: u32,
+    pub state: State,
+}
+
+unsafe extern "C" {
+    pub fn lens_open(
+        width: usize,
+        height: usize,
+        reach: usize,
+        planes: *mut u64,
+        planes_len: usize,
+        pixels: *mut u64,
+        pixels_len: usize,
+        log: *mut u64,
+        log_len: usize,
+    ) -> Answer;
+
+    pub fn lens_put(
+        state: State,
+        x: usize,
+        y: usize,
+        value: u16,
+        opacity: u8,
+        shape: u8,
+        radius: u8,
+        planes: *mut u64,
+        planes_len: usize,
+        pixels: *mut u64,
+        pixels_len: usize,
+        log: *mut u64,
+        log_len: usize,
+    ) -> Answer;
+
+    pub fn lens_undo(
+        state: State,
+        planes: *mut u64,
+        planes_len: usize,
+        pixels: *mut u64,
+        pixels_len: usize,
+        log: *mut u64,
+        log_len: usize,
+    ) -> Answer;
+
+    pub fn lens_fill(
+        state: State,
+        lens: Lens,
+        shape: u8,
+        values: *const u16,
+        values_len: usize,
+        opacities: *const u8,
+        opacities_len: usize,
+        depths: *const u32,
+        depths_len: usize,
+        planes: *mut u64,
+        planes_len: usize,
+        pixels: *mut u64,
+        pixels_len: usize,
+        log: *mut u64,
+        log_len: usize,
+    ) -> Answer;
+
+    pub fn lens_show(
+        state: State,
+        planes: *const u64,
+        planes_len: usize,
+        scratch: *mut u64,
+        scratch_len: usize,
+        values: *mut u16,
+        values_len: usize,
+        mattes: *mut u8,
+        mattes_len: usize,
+    ) -> Answer;
+}
+
+pub fn open(
+    width: usize,
+    height: usize,
+    reach: usize,
+    planes: &mut [u64],
+    pixels: &mut [u64],
+    log: &mut [u64],
+) -> Answer {
+    // Safety, here and below: each pointer comes with its slice's length, and the engine
+    // is proved to touch nothing else, whatever the other arguments are.
+    unsafe {
+        lens_open(
+            width,
+            height,
+            reach,
+            planes.as_mut_ptr(),
+            planes.len(),
+            pixels.as_mut_ptr(),
+            pixels.len(),
+            log.as_mut_ptr(),
+            log.len(),
+        )
+    }
+}
+
+#[expect(clippy::too_many_arguments, reason = "those of the C interface")]
+pub fn put(
+    state: State,
+    x: usize,
+    y: usize,
+    value: u16,
+    opacity: u8,
+    shape: u8,
+    radius: u8,
+    planes: &mut [u64],
+    pixels: &mut [u64],
+    log: &mut [u64],
+) -> Answer {
+    unsafe {
+        lens_put(
+            state,
+            x,
+            y,
+            value,
+            opacity,
+            shape,
+            radius,
+            planes.as_mut_ptr(),
+            planes.len(),
+            pixels.as_mut_ptr(),
+            pixels.len(),
+            log.as_mut_ptr(),
+            log.len(),
+        )
+    }
+}
+
+pub fn undo(state: State, planes: &mut [u64], pixels: &mut [u64], log: &mut [u64]) -> Answer {
+    unsafe {
+        lens_undo(
+            state,
+            planes.as_mut_ptr(),
+            planes.len(),
+            pixels.as_mut_ptr(),
+            pixels.len(),
+            log.as_mut_ptr(),
+            log.len(),
+        )
+    }
+}
+
+#[expect(clippy::too_many_arguments, reason = "those of the C interface")]
+pub fn fill(
+    state: State,
+    lens: Lens,
+    shape: u8,
+    values: &[u16],
+    opacities: &[u8],
+    depths: &[u32],
+    planes: &mut [u64],
+    pixels: &mut [u64],
+    log: &mut [u64],
+) -> Answer {
+    unsafe {
+        lens_fill(
+            state,
+            lens,
+            shape,
+            values.as_ptr(),
+            values.len(),
+            opacities.as_ptr(),
+            opacities.len(),
+            depths.as_ptr(),
+            depths.len(),
+            planes.as_mut_ptr(),
+            planes.len(),
+            pixels.as_mut_ptr(),
+            pixels.len(),
+            log.as_mut_ptr(),
+            log.len(),
+        )
+    }
+}
+
+pub fn show(
+    state: State,
+    planes: &[u64],
+    scratch: &mut [u64],
+    values: &mut [u16],
+    mattes: &mut [u8],
+) -> Answer {
+    unsafe {
+        lens_show(
+            state,
+            planes.as_ptr(),
+            planes.len(),
+            scratch.as_mut_ptr(),
+            scratch.len(),
+            values.as_mut_ptr(),
+            values.len(),
+            mattes.as_mut_ptr(),
+            mattes.len(),
+        )
+    }
+}

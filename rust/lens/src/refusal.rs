@@ -1,0 +1,102 @@
+//! Why the engine refused a call.
+
+use std::error::Error;
+use std::fmt;
+
+/// A refused call. It changed nothing.
+///
+/// A [`Plate`](crate::Plate) never gives `LogCount`, `Shape` and `StoredWord`: its own
+/// buffers and the type of shapes rule them out. They are for users of [`raw`](crate::raw).
+#[derive(Clone, Copy, Debug, PartialEq, Eq, Hash)]
+pub enum Refusal {
+    Sizes,
+    Lengths,
+    LogCount,
+    Place,
+    Value,
+    Shape,
+    Radius,
+    LogFull,
+    LogEmpty,
+    StoredWord,
+    Lens,
+    Depth,
+}
+
+/// In the order of their numbers, from 1.
+const ALL: [Refusal; 12] = [
+    Refusal::Sizes,
+    Refusal::Lengths,
+    Refusal::LogCount,
+    Refusal::Place,
+    Refusal::Value,
+    Refusal::Shape,
+    Refusal::Radius,
+    Refusal::LogFull,
+    Refusal::LogEmpty,
+    Refusal::StoredWord,
+    Refusal::Lens,
+    Refusal::Depth,
+];
+
+impl Refusal {
+    /// The number in the paper's table, 1 to 12.
+    pub fn number(self) -> u32 {
+        self as u32 + 1
+    }
+
+    /// The refusal of a number; none for 0, which means accepted, and beyond 12.
+    pub fn from_number(number: u32) -> Option<Refusal> {
+        ALL.get((number as usize).checked_sub(1)?).copied()
+    }
+}
+
+impl fmt::Display for Refusal {
+    fn fmt(&self, f: &mut fmt::Formatter<'_>) -> fmt::Result {
+        let message = match self {
+            Refusal::Sizes => {
+                "width and height must be 1 to 4,096, their product at most 2,097,152, \
+                 the reach at most 64"
+            }
+            Refusal::Lengths => {
+                "a buffer does not have the length that the plate's sizes ask for, \
+                 or the undo log is longer than 65,535 entries"
+            }
+            Refusal::LogCount => "the state counts more entries than the undo log has",
+            Refusal::Place => "the place lies outside the plate",
+            Refusal::Value => "a value is above 4,095",
+            Refusal::Shape => "there are only the shapes 0 to 5",
+            Refusal::Radius => {
+                "the radius is above the shape's greatest, or its kernel would reach \
+                 farther than the plate's reach"
+            }
+            Refusal::LogFull => "the undo log is full",
+            Refusal::LogEmpty => "there is nothing to undo",
+            Refusal::StoredWord => {
+                "the stored pixel or the last entry of the undo log is damaged"
+            }
+            Refusal::Lens => {
+                "opening and focal length must be 1 to 4,000, the focus above the focal \
+                 length and at most 10,000,000, the pitch 1 to 1,000"
+            }
+            Refusal::Depth => "a depth is above 10,000,000",
+        };
+        write!(f, "refused ({}): {message}", self.number())
+    }
+}
+
+impl Error for Refusal {}
+
+#[cfg(test)]
+mod tests {
+    use super::*;
+
+    #[test]
+    fn numbers_go_both_ways() {
+        for number in 1..=12 {
+            assert_eq!(Refusal::from_number(number).map(Refusal::number), Some(number));
+        }
+        assert_eq!(Refusal::from_number(0), None);
+        assert_eq!(Refusal::from_number(13), None);
+    }
+}
