@@ -1,24 +1,22 @@
 -- The rows of the image, and all of a show.
 use mathlib.Core.Path.{_≡_, refl, sym, ap, _∙_, fun-ext}
 use mathlib.Core.List.{List, [], _∷_, _++_, append-nil}
-use mathlib.Core.Bool.{not}
 use Prim.Native.Nat.{ℕ, zero, suc, _+_, _*_, _-_, _/_, _%_, _^_, _<_, _≤_}
 use native.Mathlib.Omega.{arith}
 use native.Mathlib.Nat.{mul-le-mul-right, mul-zero, mul-comm, div-add-mod', mod-lt, div-lt-iff-lt-mul}
 use native.Mathlib.Numerals.{add-one}
 use borrow.Author.Count.{below-more}
-use borrow.Author.Tests.{eqb-true, not-false}
-use lib.Dec.{eqb}
 use lib.ListN.{length, getD, drop}
 use lib.Seq.{ext-getD, drop-length}
 use Rattle.kernels.specs.Choice.{within}
 use Rattle.kernels.specs.Sum.{sum, Plane, Planes, running, down, finish}
 use Rattle.kernels.specs.Rounding.{shownValue, shownMatte}
 use Rattle.plate.specs.Layout.{Size, wide, high, padded, cell, places, columnOf, rowOf}
-use Rattle.plate.specs.Refusal.{State, sizeOf, Accepted, Views, views, viewsCheck, showCheck}
+use Rattle.plate.specs.Refusal.{State, sizeOf, Accepted, Views, views, showCheck}
 use Rattle.plate.specs.Calls.{zeros, listTo, stored, sumAt, shown, answerOf, showBy}
 use Rattle.plate.specs.Passes.{planeAt, planesAt, lines, totalAt, room, lane, Picture, Planned, Both, lightAt, matteAt, ValuesShown, MattesShown, Pictured, ShowReady}
 use Rattle.plate.proofs.Accepted.{show-accepted}
+use Rattle.plate.proofs.Listing.{length-listTo, getD-listTo}
 
 -- ONE ROW
 -- the sum down of the lines, to row y
@@ -92,17 +90,6 @@ stored-is z m p q e =
     place : (d x y : ℕ) → cell z (p + d) x y ≡ q + d * (wide z * high z) + (y * wide z + x)
     place d x y = rw e (omega arith)
 
-length-listTo : (f : ℕ → ℕ) (n : ℕ) → length (listTo f n) ≡ n
-unfolding listTo
-length-listTo f zero = refl
-length-listTo f (suc n) = ap suc (length-listTo (λ k. f (suc k)) n)
-
-getD-listTo : (f : ℕ → ℕ) (n j : ℕ) → j < n → getD (listTo f n) j 0 ≡ f j
-unfolding listTo
-getD-listTo f zero j l = absurd (omega arith)
-getD-listTo f (suc n) zero l = refl
-getD-listTo f (suc n) (suc j) l = getD-listTo (λ k. f (suc k)) n j (omega arith)
-
 some-width : (W H j : ℕ) → j < W * H → 0 < W
 some-width zero H j l = absurd (omega arith)
 some-width (suc W) H j l = omega arith
@@ -120,7 +107,7 @@ pictured-list v W H F f e cells same =
     let q = some-width W H j g in
     (rw (div-add-mod' j W) at (cells (j % W) (j / W) (mod-lt j q) (div-lt-iff-lt-mul q .1 g')))
     ∙ same j
-    ∙ sym (getD-listTo f (W * H) j g))
+    ∙ sym (getD-listTo f (W * H) j 0 g))
 
 module _ (state : State) (m s₀ s s' v₀ v o₀ o : List ℕ) (r : ShowReady (sizeOf state) m s₀ v₀ o₀)
     (same-s : length s ≡ length s₀) (same-v : length v ≡ length v₀) (same-o : length o ≡ length o₀)
