@@ -1,0 +1,227 @@
+-- FROM BYTES TO TEXT: what the machine writes is the text of the paper's rules, by induction over the records of the input.
+use mathlib.Core.Path.{_≡_, refl, ap, sym, _∙_}
+use mathlib.Core.Bool.{Bool, true, false}
+use mathlib.Core.List.{List, [], _∷_, _++_, append-nil, append-assoc}
+use Prim.Native.Nat.{ℕ, zero, suc, _+_, _*_, _-_, _^_, _≤_, _<_}
+use native.Mathlib.Omega.{arith}
+use borrow.Author.Tests.{lt-ltb, le-ltb}
+use lib.Dec.{ltb, eqb, lit<}
+use lib.ListN.{length, getD, take, drop, set, length-set, length-drop, length-map, length-replicate}
+use lib.Seq.{getD-take, getD-drop}
+use Rattle.kernels.specs.Choice.{pick}
+use Rattle.kernels.specs.declared.shape.ShapeRead.{ShapeRead}
+use Rattle.kernels.specs.declared.shape.ShapeRead.the-variants.{Known, Unknown}
+use Rattle.kernels.specs.Shape.{shapeOf}
+use Rattle.kernels.proofs.Choices.{by-lt}
+use Rattle.plate.specs.Calls.{zeros}
+use Rattle.plate.specs.Notebook.{Book}
+use Rattle.plate.specs.Lists.{Byte, codes}
+use Rattle.records.specs.Record.{Record, Undo, Show, Kind, Body, Length, unknown, bytes, bodyLength, putRecord, recordOf, Items, next, stops, ended, withBody, itemsBy, itemsOf}
+use Rattle.records.specs.Run.{Desk, closed, opened, Act, stop, go, act, stopText, thenText, textFrom, text}
+use Rattle.records.specs.Machine.{Stage, Closed, Opened, Ended, Machine, machine, Buffers, Did, recordOn, Fed, doneBy, settledOf, begunBy, begunOf, takenOf, fedBy, fedTaken, feedOf, endText, finishOf, feedAll, feedParts, joined, fed, fresh, zeroed, machineText, ending, EndToEnd, AnyCut, fedThen}
+use Rattle.records.proofs.Running.{run, onward, machine-text-run, run-ended, Live, fed-live, last-live, filled, filled-take, finished, body-read}
+use Rattle.records.proofs.Standing.{Sized, Stands, at-closed, at-open, Agrees}
+use Rattle.records.proofs.Acting.{Lawful, acts-agree}
+
+-- BYTES
+abbrev Bytes : List ℕ → Type 0
+Bytes l = (i : ℕ) → getD l i 0 < 256
+
+take-bytes : (n : ℕ) (l : List ℕ) → Bytes l → Bytes (take n l)
+take-bytes zero l h i = lit< tt
+take-bytes (suc n) [] h i = lit< tt
+take-bytes (suc n) (x ∷ l) h zero = h 0
+take-bytes (suc n) (x ∷ l) h (suc i) = take-bytes n l (λ j. h (suc j)) i
+
+drop-bytes : (n : ℕ) (l : List ℕ) → Bytes l → Bytes (drop n l)
+drop-bytes n l h i = rw (getD-drop n l i 0) (h (n + i))
+
+filled-length : (body : List ℕ) (i : ℕ) (xs : List ℕ) (j : ℕ) → length (filled body i xs j) ≡ length body
+unfolding filled
+filled-length body i xs zero = refl
+filled-length body i [] (suc j) = refl
+filled-length body i (x ∷ xs) (suc j) = filled-length (set body i x) (i + 1) xs j ∙ length-set body i x
+
+-- A RECORD LOOKS AT NO MORE THAN ITS BODY
+front-open : (b : List ℕ) → recordOf 1 b ≡ recordOf 1 (take 5 b)
+unfolding recordOf
+front-open b =
+    rw (
+      getD-take 5 b 0 0 (omega arith),
+      getD-take 5 b 1 0 (omega arith),
+      getD-take 5 b 2 0 (omega arith),
+      getD-take 5 b 3 0 (omega arith),
+      getD-take 5 b 4 0 (omega arith),
+    )
+
+front-put-as : (s : ShapeRead) (b : List ℕ) → putRecord s b ≡ putRecord s (take 9 b)
+front-put-as (Known s) b =
+    rw (
+      getD-take 9 b 0 0 (omega arith),
+      getD-take 9 b 1 0 (omega arith),
+      getD-take 9 b 2 0 (omega arith),
+      getD-take 9 b 3 0 (omega arith),
+      getD-take 9 b 4 0 (omega arith),
+      getD-take 9 b 5 0 (omega arith),
+      getD-take 9 b 6 0 (omega arith),
+      getD-take 9 b 8 0 (omega arith),
+    )
+front-put-as Unknown b =
+    rw (
+      getD-take 9 b 0 0 (omega arith),
+      getD-take 9 b 1 0 (omega arith),
+      getD-take 9 b 2 0 (omega arith),
+      getD-take 9 b 3 0 (omega arith),
+      getD-take 9 b 4 0 (omega arith),
+      getD-take 9 b 5 0 (omega arith),
+    )
+
+front-put : (b : List ℕ) → recordOf 2 b ≡ recordOf 2 (take 9 b)
+unfolding recordOf
+front-put b = rw (getD-take 9 b 7 0 (omega arith)) (front-put-as (shapeOf (getD b 7 0)) b)
+
+-- and its opacity is a byte
+put-lawful : (s : ShapeRead) (b : List ℕ) → Bytes b → Lawful (putRecord s b)
+put-lawful (Known s) b h = h 6
+put-lawful Unknown b h = tt
+
+pick-lawful : (t : Bool) (r q : Record) → Lawful r → Lawful q → Lawful (pick t r q)
+pick-lawful true r q p o = p
+pick-lawful false r q p o = o
+
+record-lawful : (kind : ℕ) (b : List ℕ) → Bytes b → Lawful (recordOf kind b)
+unfolding recordOf
+record-lawful kind b h =
+    pick-lawful (eqb kind 1) _ _ tt
+    (pick-lawful (eqb kind 2) _ _ (put-lawful (shapeOf (getD b 7 0)) b h) (pick-lawful (eqb kind 3) Undo Show tt tt))
+
+-- A RECORD AND WHAT COMES AFTER IT
+stands-live : (s : Stage) (b : Buffers) (d : Desk) → Stands s b d → Live s
+stands-live s b d (at-closed h) = tt
+stands-live s b d (at-open z planes grid pile h small kept e) = tt
+
+goes-on : (k : ℕ) (a : Act) (d : Did) (s : Stage) (kind whole : ℕ) (body : List ℕ) (xs : List ℕ) (rest : Desk → List ℕ) → Agrees k a d
+    → ((t : Stage) (b : Buffers) (book : Book) → Stands t b (opened book)
+      → run (machine t kind whole whole body k) b xs ≡ rest (opened book))
+    → onward (doneBy (machine s kind whole whole body k) d) xs ≡ thenText k a rest
+goes-on k (stop why) d s kind whole body xs rest agrees after =
+    rw (agrees .0, agrees .1, run-ended kind whole whole body k (d .buffers) xs) (append-nil (stopText k why))
+goes-on k (go text book) d s kind whole body xs rest agrees after =
+    rw (agrees .0, after (d .stage) (d .buffers) book (agrees .1))
+
+-- THE INDUCTION
+-- what holds of a machine between two records, for inputs shorter than n
+abbrev Follows : ℕ → Type 0
+Follows n =
+    (s : Stage) (kind whole : ℕ) (body : List ℕ) (k : ℕ) (b : Buffers) (d : Desk) (input : List ℕ) → length input < n
+    → Stands s b d → length body ≡ 9 → k + length input < 2 ^ 64 → Bytes input
+    → run (machine s kind whole whole body k) b input ≡ textFrom k d (itemsBy n input)
+
+-- a kind with a body of m bytes
+known-kind : (n : ℕ) → Follows n → (m : ℕ) → m ≤ 9 → (kind : ℕ) → ((body : List ℕ) → recordOf kind body ≡ recordOf kind (take m body))
+    → (s : Stage) (body : List ℕ) (k : ℕ) (b : Buffers) (d : Desk) (xs : List ℕ) → length xs < n
+    → Stands s b d → length body ≡ 9 → k + 1 + length xs < 2 ^ 64 → Bytes xs
+    → onward (fedTaken (settledOf (machine s kind 0 m body (k + 1))) b) xs
+    ≡ textFrom k d (withBody (bytes m) xs (λ l. next (recordOf kind (take l xs)) (itemsBy n (drop l xs))))
+unfolding textFrom
+known-kind n follows m few kind front s body k b d xs short stands nine fits small =
+    body-read s (stands-live s b d stands) kind 0 m body (k + 1) b xs m (omega arith) few
+    ∙ by-lt (length xs) m
+    (λ h. rw (lt-ltb (length xs) m h))
+    (λ h.
+    let now = filled body 0 xs m in
+    let zero-more : 0 + m ≡ m = omega arith in
+    let held : take m now ≡ take m xs = rw zero-more at (filled-take body 0 xs m (omega arith) h) in
+    let read : recordOf kind now ≡ recordOf kind (take m xs) = front now ∙ ap (recordOf kind) held in
+    rw (le-ltb (length xs) m h, read)
+    (goes-on (k + 1) (act (k + 1) d (recordOf kind (take m xs))) (recordOn (k + 1) s (recordOf kind (take m xs)) b) s kind m now (drop m xs)
+    (λ e. textFrom (k + 1) e (itemsBy n (drop m xs)))
+    (acts-agree (k + 1) s b d (recordOf kind (take m xs)) stands (record-lawful kind (take m xs) (take-bytes m xs small)))
+    (λ t c book st.
+    follows t kind m now (k + 1) c (opened book) (drop m xs) (omega (arith, length-drop m xs)) st
+    (filled-length body 0 xs m ∙ nine)
+    (omega (arith, length-drop m xs))
+    (drop-bytes m xs small))))
+
+-- a byte of kind
+kind-fed : (s : Stage) → Live s → (kind whole : ℕ) (body : List ℕ) (k x : ℕ) (b : Buffers) → k < 2 ^ 64 - 1
+    → feedOf (machine s kind whole whole body k) x b ≡ fedTaken (begunBy (bodyLength x) (machine s x whole whole body (k + 1))) b
+unfolding feedOf takenOf begunOf
+kind-fed s live kind whole body k x b h =
+    fed-live s (machine s kind whole whole body k) x b live ∙ rw (le-ltb whole whole (omega arith), lt-ltb k (2 ^ 64 - 1) h)
+
+module _ (n : ℕ) (follows : Follows n) (s : Stage) (whole : ℕ) (body : List ℕ) (k : ℕ) (b : Buffers) (d : Desk) (xs : List ℕ)
+    (short : length xs < n) (stands : Stands s b d) (nine : length body ≡ 9) (fits : k + 1 + length xs < 2 ^ 64) (small : Bytes xs) where
+  -- what is to be shown of the byte of kind x
+  abbrev Kinded : ℕ → Type 0
+  Kinded x =
+      onward (fedTaken (begunBy (bodyLength x) (machine s x whole whole body (k + 1))) b) xs
+      ≡ textFrom k d (withBody (bodyLength x) xs (λ l. next (recordOf x (take l xs)) (itemsBy n (drop l xs))))
+
+  no-kind : (x : ℕ) → bodyLength x ≡ unknown → Kinded x
+  unfolding begunBy textFrom fedBy
+  no-kind x e = rw (e, run-ended x whole whole body (k + 1) b xs) (append-nil (stopText (k + 1) Kind))
+
+  kinds : (x : ℕ) → Kinded x
+  unfolding begunBy recordOf
+  kinds zero = no-kind 0 refl
+  kinds (suc zero) = known-kind n follows 5 (omega arith) 1 front-open s body k b d xs short stands nine fits small
+  kinds (suc (suc zero)) = known-kind n follows 9 (omega arith) 2 front-put s body k b d xs short stands nine fits small
+  kinds (suc (suc (suc zero))) =
+      known-kind n follows 0 (omega arith) 3 (λ _. refl) s body k b d xs short stands nine fits small
+  kinds (suc (suc (suc (suc zero)))) =
+      known-kind n follows 0 (omega arith) 4 (λ _. refl) s body k b d xs short stands nine fits small
+  kinds (suc (suc (suc (suc (suc x))))) = no-kind (suc (suc (suc (suc (suc x))))) refl
+
+follows-all : (n : ℕ) → Follows n
+unfolding run itemsBy finishOf endText textFrom
+follows-all zero s kind whole body k b d input short stands nine fits small = absurd (omega arith)
+follows-all (suc n) s kind whole body k b d [] short stands nine fits small =
+    last-live s (machine s kind whole whole body k) (stands-live s b d stands) ∙ rw (le-ltb whole whole (omega arith))
+follows-all (suc n) s kind whole body k b d (x ∷ xs) short stands nine fits small =
+    ap (λ (f : Fed). onward f xs) (kind-fed s (stands-live s b d stands) kind whole body k x b (omega arith))
+    ∙ kinds n (follows-all n) s whole body k b d xs (omega arith) stands nine (omega arith) (λ i. small (suc i)) x
+
+-- FROM BYTES TO TEXT
+zeros-long : (n : ℕ) → length (zeros n) ≡ n
+zeros-long n = length-replicate {A = ℕ} n 0
+
+zeroed-sized : Sized zeroed
+zeroed-sized =
+    record {
+      planes-are = zeros-long 7168;
+      pixels-are = zeros-long 512;
+      log-is = zeros-long 64;
+      scratch-is = zeros-long 1536;
+      values-are = zeros-long 512;
+      mattes-are = zeros-long 512;
+    }
+
+codes-bytes : (bs : List Byte) → Bytes (codes bs)
+codes-bytes [] i = lit< tt
+codes-bytes (b ∷ bs) zero = b .small
+codes-bytes (b ∷ bs) (suc i) = codes-bytes bs i
+
+pub end-to-end : EndToEnd
+unfolding text itemsOf
+end-to-end input h =
+    let bytes = codes input in
+    let long : length bytes ≡ length input = length-map input (λ (b : Byte). b .code) in
+    machine-text-run bytes
+    ∙ follows-all (suc (length bytes)) Closed 0 0 (zeros 9) 0 zeroed closed bytes (omega arith) (at-closed zeroed-sized) (zeros-long 9)
+    (omega arith) (codes-bytes input)
+
+-- IN ANY CUT
+fed-both : (f : Fed) (xs ys : List ℕ) → feedAll f (xs ++ ys) ≡ feedAll (feedAll f xs) ys
+unfolding feedAll
+fed-both f [] ys = refl
+fed-both f (x ∷ xs) ys = fed-both (fedThen (f .text) (feedOf (f .machine) x (f .buffers))) xs ys
+
+fed-parts : (f : Fed) (parts : List (List ℕ)) → feedParts f parts ≡ feedAll f (joined parts)
+unfolding feedParts joined feedAll
+fed-parts f [] = refl
+fed-parts f (part ∷ parts) = fed-parts (feedAll f part) parts ∙ sym (fed-both f part (joined parts))
+
+pub any-cut : AnyCut
+unfolding machineText
+any-cut parts = ap ending (fed-parts (fed fresh zeroed []) parts)

@@ -1,0 +1,11 @@
+pub mod Writing
+pub mod Decimals
+pub mod Pictures
+pub mod Bodies
+pub mod Lends
+pub mod Performing
+pub mod Shows
+pub mod Running
+pub mod Standing
+pub mod Acting
+pub mod EndToEnd

@@ -1,0 +1,35 @@
+-- A body that is cut short, or the count.
+use native.Mathlib.Omega.{arith}
+use borrow.Author.Tests.{lt-ltb, le-ltb}
+use Rattle.records.specs.Machine.{endText}
+use borrow.Author.Needs.{needs}
+use Rattle.records.proofs.machine.end.Statement.{statement}
+use Rattle.records.proofs.machine.end.Tie as tie
+use Rattle.records.proofs.machine.end.Reads as reads
+use Rattle.records.proofs.machine.end.Lts as lts
+use Rattle.records.proofs.perform.stop.Reads as stop-reads
+use Rattle.records.proofs.text.done.Reads as done-reads
+
+stop-requires : tie.Need-stop-requires
+stop-requires c κs = search needs
+
+same-length : tie.Need-same-length
+same-length c = search needs
+
+returns : tie.Need-returns
+unfolding endText
+returns c = let m = c .before .before .before .before .before .before .before .args .m in rw (lt-ltb (m .held) (m .whole) (omega arith)) (c .before .before .stop .ensures .1)
+
+done-requires : tie.Need-done-requires
+done-requires c κs = search needs
+
+same-length-2 : tie.Need-same-length-2
+same-length-2 c = search needs
+
+returns-2 : tie.Need-returns-2
+unfolding endText
+returns-2 c = let m = c .before .before .before .before .before .before .before .args .m in rw (le-ltb (m .held) (m .whole) (omega arith)) (c .before .before .done .ensures)
+
+pub end-spec : {M : Type 1} → statement M
+end-spec =
+    tie.close (tie.spec stop-requires same-length returns done-requires same-length-2 returns-2)

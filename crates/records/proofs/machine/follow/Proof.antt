@@ -1,0 +1,136 @@
+-- By what there is to do next.
+use mathlib.Core.Path.{_∙_}
+use Rattle.records.specs.Record.{Kind, recordOf}
+use Rattle.records.specs.Machine.{buffers, stops, recordOn, fedBy}
+use Rattle.records.proofs.Performing.{stop-is, handed-nothing, handed-done}
+use borrow.Author.Needs.{needs}
+use Rattle.records.proofs.machine.follow.Statement.{statement}
+use Rattle.records.proofs.machine.follow.Tie as tie
+use Rattle.records.proofs.machine.follow.Reads as reads
+use Rattle.records.proofs.machine.follow.Lts as lts
+use Rattle.records.proofs.machine.moved.Reads as moved-reads
+use Rattle.records.proofs.perform.perform.Reads as perform-reads
+use Rattle.records.proofs.perform.stop.Reads as stop-reads
+use Rattle.records.proofs.record.read.Reads as read-reads
+
+enum-told : tie.Need-enum-told
+enum-told c = search needs
+
+enum-told-2 : tie.Need-enum-told-2
+enum-told-2 c = search needs
+
+moved-requires : tie.Need-moved-requires
+moved-requires c κs = search needs
+
+enum-told-3 : tie.Need-enum-told-3
+enum-told-3 c = search needs
+
+stop-requires : tie.Need-stop-requires
+stop-requires c κs = search needs
+
+moved-requires-2 : tie.Need-moved-requires-2
+moved-requires-2 c κs = search needs
+
+enum-told-4 : tie.Need-enum-told-4
+enum-told-4 c = search needs
+
+read-requires : tie.Need-read-requires
+read-requires c κs = search needs
+
+perform-requires : tie.Need-perform-requires
+perform-requires c κs = search needs
+
+moved-requires-3 : tie.Need-moved-requires-3
+moved-requires-3 c κs = search needs
+
+returns : tie.Need-returns
+unfolding fedBy
+returns c =
+    let a = c .before .before .before .before .before .before .before .before .before .before .args in
+    rw (c .enum-told .given .1)
+    (handed-nothing (a .t .machine)
+    (buffers (a .planes .now) (a .pixels .now) (a .log .now) (a .scratch .now) (a .values .now) (a .mattes .now)) (a .out .now))
+
+returns-2 : tie.Need-returns-2
+unfolding fedBy
+returns-2 c =
+    let a = c .before .before .before .before .before .before .before .before .before .before .before .args in
+    rw (c .before .enum-told2 .given .1, c .moved .ensures)
+    (handed-nothing _
+    (buffers (a .planes .now) (a .pixels .now) (a .log .now) (a .scratch .now) (a .values .now) (a .mattes .now)) (a .out .now))
+
+same-length : tie.Need-same-length
+same-length c = search needs
+
+returns-3 : tie.Need-returns-3
+unfolding fedBy
+returns-3 c =
+    let a = c .before .before .before .before .before .before .before .before .before .before .before .before .before .before .before .args in
+    let m = a .t .machine in
+    let stopped = c .before .before .before .stop in
+    let b = buffers (a .planes .now) (a .pixels .now) (a .log .now) (a .scratch .now) (a .values .now) (a .mattes .now) in
+    rw (c .before .before .before .before .before .enum-told3 .given .1)
+    (handed-done m (c .moved2 .result) (stopped .result) b (a .out .now) _ (stops (m .count) Kind b)
+    (stop-is (m .count) Kind (stopped .result) b (stopped .ensures))
+    (c .moved2 .ensures))
+
+same-length-2 : tie.Need-same-length-2
+same-length-2 c = search needs
+
+same-length-3 : tie.Need-same-length-3
+same-length-3 c = search needs
+
+same-length-4 : tie.Need-same-length-4
+same-length-4 c = search needs
+
+same-length-5 : tie.Need-same-length-5
+same-length-5 c = search needs
+
+same-length-6 : tie.Need-same-length-6
+same-length-6 c = search needs
+
+same-length-7 : tie.Need-same-length-7
+same-length-7 c = search needs
+
+same-length-8 : tie.Need-same-length-8
+same-length-8 c = search needs
+
+returns-4 : tie.Need-returns-4
+unfolding fedBy
+returns-4 c =
+    let a = c .before .before .before .before .before .before .before .before .before .before .before .before .before .before .before .before .before .before .before .before .before .before .before .before .before .before .before .before .before .before .before .before .before .before .before .args in
+    let m = a .t .machine in
+    let did = c .before .before .before .before .before .before .before .before .before .before .before .before .before .before .before .perform in
+    let b = buffers (a .planes .now) (a .pixels .now) (a .log .now) (a .scratch .now) (a .values .now) (a .mattes .now) in
+    rw (c .before .before .before .before .before .before .before .before .before .before .before .before .before .before .before .before .before .before .before .before .before .before .before .before .before .enum-told4 .given .1)
+    (handed-done m (c .moved3 .result) (did .result) _ (a .out .now) _
+    (recordOn (m .count) (m .stage) (recordOf (m .kind) (m .body)) b)
+    (rw (← c .before .before .before .before .before .before .before .before .before .before .before .before .before .before .before .before .before .before .before .before .before .before .before .read .ensures) (did .ensures))
+    (c .moved3 .ensures))
+
+pub follow-spec : {M : Type 1} → statement M
+follow-spec =
+    tie.close
+    (tie.spec
+    enum-told
+    enum-told-2
+    moved-requires
+    enum-told-3
+    stop-requires
+    moved-requires-2
+    enum-told-4
+    read-requires
+    perform-requires
+    moved-requires-3
+    returns
+    returns-2
+    same-length
+    returns-3
+    same-length-2
+    same-length-3
+    same-length-4
+    same-length-5
+    same-length-6
+    same-length-7
+    same-length-8
+    returns-4)

@@ -1,0 +1,19 @@
+-- The test picks what is next.
+use native.Mathlib.Omega.{arith}
+use borrow.Author.Tests.{lt-ltb, le-ltb}
+use Rattle.records.specs.Machine.{settledOf}
+use Rattle.records.proofs.machine.settled.Statement.{statement}
+use Rattle.records.proofs.machine.settled.Tie as tie
+use Rattle.records.proofs.machine.settled.Reads as reads
+use Rattle.records.proofs.machine.settled.Lts as lts
+
+returns : tie.Need-returns
+unfolding settledOf
+returns c = let m = c .before .before .args .m in rw (lt-ltb (m .held) (m .whole) (omega arith))
+
+returns-2 : tie.Need-returns-2
+unfolding settledOf
+returns-2 c = let m = c .before .before .args .m in rw (le-ltb (m .held) (m .whole) (omega arith))
+
+pub settled-spec : {M : Type 1} → statement M
+settled-spec = tie.close (tie.spec returns returns-2)

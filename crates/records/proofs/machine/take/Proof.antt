@@ -1,0 +1,28 @@
+-- The test picks what the byte is.
+use native.Mathlib.Omega.{arith}
+use borrow.Author.Tests.{lt-ltb, le-ltb}
+use Rattle.records.specs.Machine.{takenOf}
+use borrow.Author.Needs.{needs}
+use Rattle.records.proofs.machine.take.Statement.{statement}
+use Rattle.records.proofs.machine.take.Tie as tie
+use Rattle.records.proofs.machine.take.Reads as reads
+use Rattle.records.proofs.machine.take.Lts as lts
+use Rattle.records.proofs.machine.begun.Reads as begun-reads
+use Rattle.records.proofs.machine.carried.Reads as carried-reads
+
+carried-requires : tie.Need-carried-requires
+carried-requires c κs = search needs
+
+returns : tie.Need-returns
+unfolding takenOf
+returns c = let m = c .before .before .before .args .m in rw (lt-ltb (m .held) (m .whole) (omega arith)) (c .carried .ensures)
+
+begun-requires : tie.Need-begun-requires
+begun-requires c κs = search needs
+
+returns-2 : tie.Need-returns-2
+unfolding takenOf
+returns-2 c = let m = c .before .before .before .args .m in rw (le-ltb (m .held) (m .whole) (omega arith)) (c .begun .ensures)
+
+pub take-spec : {M : Type 1} → statement M
+take-spec = tie.close (tie.spec carried-requires returns begun-requires returns-2)

@@ -1,0 +1,137 @@
+-- An open opens, and every other record stops with 15.
+use Rattle.records.specs.Record.{Order}
+use Rattle.records.specs.Machine.{buffers, recordOn}
+use Rattle.records.proofs.Performing.{stop-is}
+use borrow.Author.Needs.{needs}
+use Rattle.records.proofs.perform.on_closed.Statement.{statement}
+use Rattle.records.proofs.perform.on_closed.Tie as tie
+use Rattle.records.proofs.perform.on_closed.Reads as reads
+use Rattle.records.proofs.perform.on_closed.Lts as lts
+use Rattle.records.proofs.perform.open_on.Reads as open-on-reads
+use Rattle.records.proofs.perform.stop.Reads as stop-reads
+
+enum-known-item : tie.Need-enum-known-item
+enum-known-item c = search needs
+
+open-on-requires : tie.Need-open-on-requires
+open-on-requires c κs = search needs
+
+enum-told : tie.Need-enum-told
+enum-told c = search needs
+
+stop-requires : tie.Need-stop-requires
+stop-requires c κs = search needs
+
+enum-told-2 : tie.Need-enum-told-2
+enum-told-2 c = search needs
+
+stop-requires-2 : tie.Need-stop-requires-2
+stop-requires-2 c κs = search needs
+
+enum-told-3 : tie.Need-enum-told-3
+enum-told-3 c = search needs
+
+stop-requires-3 : tie.Need-stop-requires-3
+stop-requires-3 c κs = search needs
+
+enum-told-4 : tie.Need-enum-told-4
+enum-told-4 c = search needs
+
+stop-requires-4 : tie.Need-stop-requires-4
+stop-requires-4 c κs = search needs
+
+same-length : tie.Need-same-length
+same-length c = search needs
+
+same-length-2 : tie.Need-same-length-2
+same-length-2 c = search needs
+
+same-length-3 : tie.Need-same-length-3
+same-length-3 c = search needs
+
+same-length-4 : tie.Need-same-length-4
+same-length-4 c = search needs
+
+returns : tie.Need-returns
+unfolding recordOn
+returns c = rw (c .before .before .before .before .before .before .before .before .before .before .before .before .before .before .item .given .1) (c .before .before .before .before .before .before .before .before .open-on .ensures)
+
+same-length-5 : tie.Need-same-length-5
+same-length-5 c = search needs
+
+returns-2 : tie.Need-returns-2
+unfolding recordOn
+returns-2 c =
+    let a = c .before .before .before .before .before .before .before .before .before .before .args in
+    let stopped = c .before .before .stop in
+    rw (c .before .before .before .before .enum-told .given .1)
+    (λ scratch values mattes.
+    stop-is (a .k) Order (stopped .result) (buffers (a .planes .now) (a .pixels .now) (a .log .now) scratch values mattes)
+    (stopped .ensures))
+
+same-length-6 : tie.Need-same-length-6
+same-length-6 c = search needs
+
+returns-3 : tie.Need-returns-3
+unfolding recordOn
+returns-3 c =
+    let a = c .before .before .before .before .before .before .before .before .before .before .args in
+    let stopped = c .before .before .stop2 in
+    rw (c .before .before .before .before .enum-told2 .given .1)
+    (λ scratch values mattes.
+    stop-is (a .k) Order (stopped .result) (buffers (a .planes .now) (a .pixels .now) (a .log .now) scratch values mattes)
+    (stopped .ensures))
+
+same-length-7 : tie.Need-same-length-7
+same-length-7 c = search needs
+
+returns-4 : tie.Need-returns-4
+unfolding recordOn
+returns-4 c =
+    let a = c .before .before .before .before .before .before .before .before .before .before .args in
+    let stopped = c .before .before .stop3 in
+    rw (c .before .before .before .before .enum-told3 .given .1)
+    (λ scratch values mattes.
+    stop-is (a .k) Order (stopped .result) (buffers (a .planes .now) (a .pixels .now) (a .log .now) scratch values mattes)
+    (stopped .ensures))
+
+same-length-8 : tie.Need-same-length-8
+same-length-8 c = search needs
+
+returns-5 : tie.Need-returns-5
+unfolding recordOn
+returns-5 c =
+    let a = c .before .before .before .before .before .before .before .before .before .before .args in
+    let stopped = c .before .before .stop4 in
+    rw (c .before .before .before .before .enum-told4 .given .1)
+    (λ scratch values mattes.
+    stop-is (a .k) Order (stopped .result) (buffers (a .planes .now) (a .pixels .now) (a .log .now) scratch values mattes)
+    (stopped .ensures))
+
+pub on-closed-spec : {M : Type 1} → statement M
+on-closed-spec =
+    tie.close
+    (tie.spec
+    enum-known-item
+    open-on-requires
+    enum-told
+    stop-requires
+    enum-told-2
+    stop-requires-2
+    enum-told-3
+    stop-requires-3
+    enum-told-4
+    stop-requires-4
+    same-length
+    same-length-2
+    same-length-3
+    same-length-4
+    returns
+    same-length-5
+    returns-2
+    same-length-6
+    returns-3
+    same-length-7
+    returns-4
+    same-length-8
+    returns-5)

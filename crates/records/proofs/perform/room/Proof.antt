@@ -1,0 +1,94 @@
+-- A side above 512 makes more than 512 cells, and so no product here wraps.
+use mathlib.Core.Path.{sym}
+use Prim.Native.Nat.{_+_, _*_, _≤_, _<_}
+use native.Mathlib.Omega.{arith}
+use Rattle.plate.specs.Layout.{Size, padded, places}
+use Rattle.kernels.proofs.Numbers.{product-le}
+use Rattle.records.proofs.Lends.{few, none, long, tall}
+use borrow.Author.Needs.{needs}
+use Rattle.records.proofs.perform.room.Statement.{statement}
+use Rattle.records.proofs.perform.room.Tie as tie
+use Rattle.records.proofs.perform.room.Reads as reads
+use Rattle.records.proofs.perform.room.Lts as lts
+
+returns : tie.Need-returns
+returns c =
+    let a = c .before .args in
+    let z : Size = record { width = a .width; height = a .height; reach = a .reach } in
+    let many : 512 < padded z = long z (omega arith) in
+    (sym (none z (padded z) many), sym (none z (places z) many))
+
+returns-2 : tie.Need-returns-2
+returns-2 c =
+    let a = c .before .before .args in
+    let z : Size = record { width = a .width; height = a .height; reach = a .reach } in
+    let many : 512 < padded z = tall z (omega arith) in
+    (sym (none z (padded z) many), sym (none z (places z) many))
+
+returns-3 : tie.Need-returns-3
+returns-3 c =
+    let a = c .before .before .before .args in
+    let z : Size = record { width = a .width; height = a .height; reach = a .reach } in
+    let many : 512 < padded z = long z (omega arith) in
+    (sym (none z (padded z) many), sym (none z (places z) many))
+
+mul-cells : tie.Need-mul-cells
+mul-cells c = search needs
+
+add-cells : tie.Need-add-cells
+add-cells c = search needs
+
+add-cells-2 : tie.Need-add-cells-2
+add-cells-2 c = search needs
+
+mul-cells-2 : tie.Need-mul-cells-2
+mul-cells-2 c = search needs
+
+add-cells-3 : tie.Need-add-cells-3
+add-cells-3 c = search needs
+
+add-cells-4 : tie.Need-add-cells-4
+add-cells-4 c = search needs
+
+mul-cells-3 : tie.Need-mul-cells-3
+mul-cells-3 c =
+    let a = c .before .before .before .args in
+    omega (
+      arith,
+      product-le (a .width + 2 * a .reach + 6) (a .height + 2 * a .reach + 6) 2048 2048 (omega arith) (omega arith),
+    )
+
+returns-4 : tie.Need-returns-4
+returns-4 c =
+    let a = c .before .before .before .before .args in
+    let z : Size = record { width = a .width; height = a .height; reach = a .reach } in
+    let many : 512 < padded z = omega arith in
+    (sym (none z (padded z) many), sym (none z (places z) many))
+
+mul-t12 : tie.Need-mul-t12
+mul-t12 c = search needs
+
+returns-5 : tie.Need-returns-5
+returns-5 c =
+    let a = c .before .before .before .before .args in
+    let z : Size = record { width = a .width; height = a .height; reach = a .reach } in
+    let few-cells : padded z ≤ 512 = omega arith in
+    (sym (few z (padded z) few-cells), sym (few z (places z) few-cells))
+
+pub room-spec : {M : Type 1} → statement M
+room-spec =
+    tie.close
+    (tie.spec
+    returns
+    returns-2
+    returns-3
+    mul-cells
+    add-cells
+    add-cells-2
+    mul-cells-2
+    add-cells-3
+    add-cells-4
+    mul-cells-3
+    returns-4
+    mul-t12
+    returns-5)

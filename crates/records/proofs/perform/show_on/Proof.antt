@@ -1,0 +1,121 @@
+-- The show on the parts that `room` gives.
+use mathlib.Core.Path.{ap, sym, _∙_}
+use Prim.Native.Nat.{ℕ, _*_}
+use native.Mathlib.Omega.{arith}
+use lib.Seq.{length-take-le}
+use Rattle.plate.specs.Refusal.{sizeOf}
+use Rattle.records.specs.Machine.{buffers}
+use Rattle.records.proofs.Lends.{cells-within, places-within}
+use Rattle.records.proofs.Performing.{show-is}
+use borrow.Author.Needs.{needs}
+use Rattle.records.proofs.perform.show_on.Statement.{statement}
+use Rattle.records.proofs.perform.show_on.Tie as tie
+use Rattle.records.proofs.perform.show_on.Reads as reads
+use Rattle.records.proofs.perform.show_on.Lts as lts
+use Rattle.records.proofs.perform.room.Reads as room-reads
+use Rattle.records.proofs.perform.show_parts.Reads as show-parts-reads
+
+room-requires : tie.Need-room-requires
+room-requires c κs = search needs
+
+mul-cells : tie.Need-mul-cells
+mul-cells c =
+    let start = c .before .before .before .before .before .before .before in
+    omega (arith, cells-within (sizeOf (start .args .state)), c .before .room .ensures .0)
+
+mul-sums : tie.Need-mul-sums
+mul-sums c =
+    let start = c .before .before .before .before .before .before .before .before in
+    omega (arith, cells-within (sizeOf (start .args .state)), c .before .before .room .ensures .0)
+
+slice-aggregate-show-parts : tie.Need-slice-aggregate-show-parts
+slice-aggregate-show-parts c =
+    let start = c .before .before .before .before .before .before .before .before .before in
+    sym (length-take-le _ _ (omega (arith, cells-within (sizeOf (start .args .state)), c .before .before .before .room .ensures .0, start .pre .planes-are)))
+
+slice-relend-prefix-show-parts : tie.Need-slice-relend-prefix-show-parts
+slice-relend-prefix-show-parts c =
+    let start = c .before .before .before .before .before .before .before .before .before in
+    omega (arith, cells-within (sizeOf (start .args .state)), c .before .before .before .room .ensures .0, start .pre .scratch-is)
+
+slice-aggregate-show-parts-2 : tie.Need-slice-aggregate-show-parts-2
+slice-aggregate-show-parts-2 c =
+    let start = c .before .before .before .before .before .before .before .before .before .before in
+    sym (length-take-le _ _ (omega (arith, cells-within (sizeOf (start .args .state)), c .before .before .before .before .room .ensures .0, start .pre .scratch-is)))
+
+slice-relend-prefix-show-parts-2 : tie.Need-slice-relend-prefix-show-parts-2
+slice-relend-prefix-show-parts-2 c =
+    let start = c .before .before .before .before .before .before .before .before .before .before in
+    omega (arith, places-within (sizeOf (start .args .state)), c .before .before .before .before .room .ensures .1, start .pre .values-are)
+
+slice-aggregate-show-parts-3 : tie.Need-slice-aggregate-show-parts-3
+slice-aggregate-show-parts-3 c =
+    let start = c .before .before .before .before .before .before .before .before .before .before .before in
+    sym (length-take-le _ _ (omega (arith, places-within (sizeOf (start .args .state)), c .before .before .before .before .before .room .ensures .1, start .pre .values-are)))
+
+slice-relend-prefix-show-parts-3 : tie.Need-slice-relend-prefix-show-parts-3
+slice-relend-prefix-show-parts-3 c =
+    let start = c .before .before .before .before .before .before .before .before .before .before .before in
+    omega (arith, places-within (sizeOf (start .args .state)), c .before .before .before .before .before .room .ensures .1, start .pre .mattes-are)
+
+slice-aggregate-show-parts-4 : tie.Need-slice-aggregate-show-parts-4
+slice-aggregate-show-parts-4 c =
+    let start = c .before .before .before .before .before .before .before .before .before .before .before .before in
+    sym (length-take-le _ _ (omega (arith, places-within (sizeOf (start .args .state)), c .before .before .before .before .before .before .room .ensures .1, start .pre .mattes-are)))
+
+show-parts-requires : tie.Need-show-parts-requires
+show-parts-requires c κs =
+    let start = c .before .before .before .before .before .before .before .before .before .before .before .before .before in
+    let a = start .args in
+    let lends = c .before .before .before .before .before .before .before .room .ensures in
+    let few-cells = cells-within (sizeOf (a .state)) in
+    let few-places = places-within (sizeOf (a .state)) in
+    record {
+      planes-are = length-take-le _ _ (omega (arith, lends .0, start .pre .planes-are)) ∙ ap (λ (n : ℕ). 14 * n) (lends .0);
+      values-are = length-take-le _ _ (omega (arith, lends .1, start .pre .values-are)) ∙ lends .1;
+      mattes-are = length-take-le _ _ (omega (arith, lends .1, start .pre .mattes-are)) ∙ lends .1;
+      out-room = start .pre .out-room;
+    }
+
+same-length : tie.Need-same-length
+same-length c = search needs
+
+same-length-2 : tie.Need-same-length-2
+same-length-2 c = search needs
+
+same-length-3 : tie.Need-same-length-3
+same-length-3 c = search needs
+
+same-length-4 : tie.Need-same-length-4
+same-length-4 c = search needs
+
+returns : tie.Need-returns
+returns c =
+    let a = c .before .before .before .before .before .before .before .before .before .before .before .before .before .before .before .before .before .before .before .before .before .before .args in
+    let lends = c .before .before .before .before .before .before .before .before .before .before .before .before .before .before .before .before .room in
+    let parts = c .before .before .before .before .before .before .before .before .show-parts in
+    λ pixels log.
+    show-is (a .k) (a .state) (buffers (a .planes .now) pixels log (a .scratch .now) (a .values .now) (a .mattes .now))
+    (14 * lends .result .cells) (3 * lends .result .cells) (lends .result .places) (parts .result)
+    (ap (λ (n : ℕ). 14 * n) (lends .ensures .0)) (ap (λ (n : ℕ). 3 * n) (lends .ensures .0)) (lends .ensures .1) (parts .ensures)
+
+pub show-on-spec : {M : Type 1} → statement M
+show-on-spec =
+    tie.close
+    (tie.spec
+    room-requires
+    mul-cells
+    mul-sums
+    slice-aggregate-show-parts
+    slice-relend-prefix-show-parts
+    slice-aggregate-show-parts-2
+    slice-relend-prefix-show-parts-2
+    slice-aggregate-show-parts-3
+    slice-relend-prefix-show-parts-3
+    slice-aggregate-show-parts-4
+    show-parts-requires
+    same-length
+    same-length-2
+    same-length-3
+    same-length-4
+    returns)

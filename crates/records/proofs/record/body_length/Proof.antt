@@ -1,0 +1,27 @@
+-- The match's numbers are places in the list of lengths, and any other number is past it or 0.
+use mathlib.Core.Path.{sym}
+use native.Mathlib.Omega.{arith}
+use Rattle.records.proofs.Bodies.{unknown-kind}
+use borrow.Author.Needs.{needs}
+use Rattle.records.proofs.record.body_length.Statement.{statement}
+use Rattle.records.proofs.record.body_length.Tie as tie
+use Rattle.records.proofs.record.body_length.Reads as reads
+use Rattle.records.proofs.record.body_length.Lts as lts
+
+returns : tie.Need-returns
+returns c = search needs
+
+returns-2 : tie.Need-returns-2
+returns-2 c = search needs
+
+returns-3 : tie.Need-returns-3
+returns-3 c = search needs
+
+returns-4 : tie.Need-returns-4
+returns-4 c = search needs
+
+returns-5 : tie.Need-returns-5
+returns-5 c = sym (unknown-kind (c .before .args .kind) (omega arith) (omega arith) (omega arith) (omega arith))
+
+pub body-length-spec : {M : Type 1} → statement M
+body-length-spec = tie.close (tie.spec returns returns-2 returns-3 returns-4 returns-5)

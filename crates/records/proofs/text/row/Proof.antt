@@ -1,0 +1,86 @@
+-- Each turn writes one cell more, with a space before it if it is not the first, in at most 10 bytes.
+use mathlib.Core.Path.{_≡_, _∙_}
+use Prim.Native.Nat.{_+_, _*_, _-_, _≤_}
+use native.Mathlib.Omega.{arith}
+use borrow.Author.Needs.{needs}
+use lib.ListN.{length}
+use Rattle.records.specs.Text.{rowText}
+use Rattle.records.specs.Written.{Wrote}
+use Rattle.records.proofs.Writing.{wrote-nothing, then-wrote}
+use Rattle.records.proofs.Pictures.{row-more}
+use Rattle.records.proofs.text.row.Statement.{statement}
+use Rattle.records.proofs.text.row.Tie as tie
+use Rattle.records.proofs.text.row.Reads as reads
+use Rattle.records.proofs.text.row.Lts as lts
+use Rattle.records.proofs.text.gap.Reads as gap-reads
+use Rattle.records.proofs.text.cell.Reads as cell-reads
+
+abbrev Inv-loop : tie.InvT-loop
+Inv-loop out₀ at values mattes from w next₀ j₀ out next j =
+    (j ≤ w) × (length out ≡ length out₀) × (next ≤ at + 10 * j) × Wrote out₀ at (rowText values mattes from j) out next
+
+abbrev μ-loop : tie.MeasureT-loop
+μ-loop out₀ at values mattes from w next₀ j₀ out next j = w - j
+
+loop-holds : tie.Need-loop-holds Inv-loop μ-loop
+unfolding rowText
+loop-holds c = (search needs, search needs, search needs, wrote-nothing _ _ (omega arith))
+
+gap-requires : tie.Need-gap-requires Inv-loop μ-loop
+gap-requires c κs = omega arith
+
+add-cell : tie.Need-add-cell Inv-loop μ-loop
+add-cell c = omega arith
+
+cell-requires : tie.Need-cell-requires Inv-loop μ-loop
+cell-requires c κs =
+    let at = c .before .before .before .before .before .before in
+    let start = at .before .before .before .before in
+    let one = c .before .before .before .gap in
+    let room = one .kept .0 in
+    (omega (arith, one .ensures .1, start .pre .0), omega (arith, start .pre .1), omega (arith, start .pre .2))
+
+add-j : tie.Need-add-j Inv-loop μ-loop
+add-j c = search needs
+
+loop-less : tie.Need-loop-less Inv-loop μ-loop
+loop-less c = search needs
+
+loop-again : tie.Need-loop-again Inv-loop μ-loop
+loop-again c =
+    let at = c .before .before .before .before .before .before .before .before .before in
+    let start = at .before .before .before .before in
+    let one = c .before .before .before .before .before .before .gap in
+    let two = c .before .before .cell in (
+      search needs,
+      two .kept .0 ∙ one .kept .0 ∙ at .loop .inv .1,
+      omega (arith, one .ensures .1, two .ensures .1, at .loop .inv .2),
+      rw (row-more (start .args .values .now) (start .args .mattes .now) (start .args .from) (at .loop .j))
+      (then-wrote (at .loop .inv .3) (then-wrote (one .ensures .0) (two .ensures .0))),
+    )
+
+same-length : tie.Need-same-length Inv-loop μ-loop
+same-length c = search needs
+
+returns : tie.Need-returns Inv-loop μ-loop
+returns c =
+    let at = c .before in
+    let start = at .before .before .before .before in
+    let all : at .loop .j ≡ start .args .w = omega arith in
+    (rw all at (at .loop .inv .3), rw all at (at .loop .inv .2))
+
+pub row-spec : {M : Type 1} → statement M
+row-spec =
+    tie.close
+    (tie.spec
+    Inv-loop
+    μ-loop
+    loop-holds
+    gap-requires
+    add-cell
+    cell-requires
+    add-j
+    loop-less
+    loop-again
+    same-length
+    returns)

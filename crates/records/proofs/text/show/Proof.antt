@@ -1,0 +1,26 @@
+-- The head, and the rows after it.
+use Rattle.records.specs.Text.{showText}
+use Rattle.records.proofs.Writing.{then-wrote}
+use borrow.Author.Needs.{needs}
+use Rattle.records.proofs.text.show.Statement.{statement}
+use Rattle.records.proofs.text.show.Tie as tie
+use Rattle.records.proofs.text.show.Reads as reads
+use Rattle.records.proofs.text.show.Lts as lts
+use Rattle.records.proofs.text.head.Reads as head-reads
+use Rattle.records.proofs.text.rows.Reads as rows-reads
+
+head-requires : tie.Need-head-requires
+head-requires c κs = search needs
+
+rows-requires : tie.Need-rows-requires
+rows-requires c κs = search needs
+
+same-length : tie.Need-same-length
+same-length c = search needs
+
+returns : tie.Need-returns
+unfolding showText
+returns c = then-wrote (c .before .before .before .before .before .before .head .ensures .0) (c .before .before .rows .ensures)
+
+pub show-spec : {M : Type 1} → statement M
+show-spec = tie.close (tie.spec head-requires rows-requires same-length returns)

@@ -1,0 +1,5 @@
+pub mod Text
+pub mod Written
+pub mod Record
+pub mod Run
+pub mod Machine

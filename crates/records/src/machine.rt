@@ -1,0 +1,298 @@
+// The machine: it takes the input a byte at a time, and hands out the text to write. Its buffers are lent to each call.
+use crate::perform::Stage;
+use crate::perform::perform;
+use crate::perform::stop;
+use crate::record;
+use crate::record::Length;
+use crate::record::Stop;
+use crate::text;
+ghost use mathlib.Core.Path.{_≡_};
+ghost use Prim.Native.Nat.{_≤_};
+ghost use lib.ListN.{length};
+ghost use Rattle.records.specs.Written.{Wrote};
+ghost use Rattle.records.specs.Machine.{buffers, AllRoom, endedAt, fresh, standing, settledOf, begunOf, carriedOf, takenOf, fedTaken, handed, handOut, feedCall, endText, closing, finishCall};
+
+// A run between two bytes: where it stands, the record that is being read (its kind, how many bytes of its body are held, and of
+// how many), and how many records have begun.
+pub struct Machine {
+    pub stage: Stage,
+    pub kind: u8,
+    pub held: usize,
+    pub whole: usize,
+    pub body: [u8; 9],
+    pub count: u64,
+}
+
+// What a byte leaves: the machine, and how many bytes of text stand at the start of what was lent for it.
+pub struct Fed {
+    pub machine: Machine,
+    pub written: usize,
+}
+
+// What there is to do once a byte is taken in: wait for the next one, do the record, refuse its kind, or give a machine up that no
+// run comes to.
+enum Next {
+    Wait,
+    Do,
+    Refuse,
+    Lose,
+}
+
+struct Taken {
+    machine: Machine,
+    next: Next,
+}
+
+// The machine before the first byte.
+pub fn start() -> Machine
+    ensures { λ r. ⌜ r ≡ fresh ⌝ }
+{
+    Machine {
+        stage: Stage::Closed,
+        kind: 0,
+        held: 0,
+        whole: 0,
+        body: [0; 9],
+        count: 0,
+    }
+}
+
+// Whether a run has stopped: no byte after that changes anything.
+pub fn ended(m: Machine) -> bool
+    ensures { λ r. ⌜ r ≡ endedAt (m .stage) ⌝ }
+{
+    let stage = m.stage;
+    match stage {
+        Stage::Closed => false,
+        Stage::Opened(_) => false,
+        Stage::Ended => true,
+    }
+}
+
+// The same machine, standing elsewhere.
+fn moved(m: Machine, stage: Stage) -> Machine
+    ensures { λ r. ⌜ r ≡ standing m stage ⌝ }
+{
+    let body = m.body;
+    Machine {
+        stage: stage,
+        kind: m.kind,
+        held: m.held,
+        whole: m.whole,
+        body: body,
+        count: m.count,
+    }
+}
+
+// A record is done as soon as its body is whole.
+fn settled(m: Machine) -> Taken
+    ensures { λ r. ⌜ r ≡ settledOf m ⌝ }
+{
+    if m.held < m.whole {
+        return Taken {
+            machine: m,
+            next: Next::Wait,
+        };
+    }
+    Taken {
+        machine: m,
+        next: Next::Do,
+    }
+}
+
+// A byte of kind begins a record.
+fn begun(m: Machine, byte: u8) -> Taken
+    ensures { λ r. ⌜ r ≡ begunOf m byte ⌝ }
+{
+    let stage = m.stage;
+    let body = m.body;
+    if u64::MAX <= m.count {
+        return Taken {
+            machine: m,
+            next: Next::Lose,
+        };
+    }
+    match record::body_length(byte) {
+        Length::Bytes(n) => settled(Machine {
+            stage: stage,
+            kind: byte,
+            held: 0,
+            whole: n,
+            body: body,
+            count: m.count + 1,
+        }),
+        Length::Unknown => Taken {
+            machine: Machine {
+                stage: stage,
+                kind: byte,
+                held: m.held,
+                whole: m.whole,
+                body: body,
+                count: m.count + 1,
+            },
+            next: Next::Refuse,
+        },
+    }
+}
+
+// A byte of a body goes to its place.
+fn carried(m: Machine, byte: u8) -> Taken
+    ensures { λ r. ⌜ r ≡ carriedOf m byte ⌝ }
+{
+    let stage = m.stage;
+    let mut body = m.body;
+    let held = m.held;
+    if 9 <= held {
+        return Taken {
+            machine: m,
+            next: Next::Lose,
+        };
+    }
+    body[held] = byte;
+    settled(Machine {
+        stage: stage,
+        kind: m.kind,
+        held: held + 1,
+        whole: m.whole,
+        body: body,
+        count: m.count,
+    })
+}
+
+// A byte taken in.
+fn take(m: Machine, byte: u8) -> Taken
+    ensures { λ r. ⌜ r ≡ takenOf m byte ⌝ }
+{
+    if m.held < m.whole {
+        return carried(m, byte);
+    }
+    begun(m, byte)
+}
+
+// What comes of a byte that is taken in.
+fn follow(
+    t: Taken,
+    planes: &mut [u64],
+    pixels: &mut [u64],
+    log: &mut [u64],
+    scratch: &mut [u64],
+    values: &mut [u16],
+    mattes: &mut [u8],
+    out: &mut [u8],
+) -> Fed
+    requires { ⌜ AllRoom (now planes) (now pixels) (now scratch) (now values) (now mattes) (now out) ⌝ }
+    ensures { λ r. ⌜ handed (r .machine) (r .written) (buffers (now (planes .exit)) (now (pixels .exit)) (now (log .exit)) (now (scratch .exit)) (now (values .exit)) (now (mattes .exit))) (now (out .exit)) ≡ handOut (fedTaken t (buffers (now (planes .entry)) (now (pixels .entry)) (now (log .entry)) (now (scratch .entry)) (now (values .entry)) (now (mattes .entry)))) (now (out .entry)) ⌝ }
+{
+    let m = t.machine;
+    let next = t.next;
+    match next {
+        Next::Wait => Fed {
+            machine: m,
+            written: 0,
+        },
+        Next::Lose => Fed {
+            machine: moved(m, Stage::Ended),
+            written: 0,
+        },
+        Next::Refuse => {
+            let done = stop(Stop::Kind, m.count, out);
+            let stage = done.stage;
+            Fed {
+                machine: moved(m, stage),
+                written: done.written,
+            }
+        }
+        Next::Do => {
+            let body = m.body;
+            let whole = record::read(m.kind, body);
+            let stage = m.stage;
+            let done = perform(
+                stage, whole, m.count, planes, pixels, log, scratch, values, mattes, out,
+            );
+            let now = done.stage;
+            Fed {
+                machine: moved(m, now),
+                written: done.written,
+            }
+        }
+    }
+}
+
+// A byte of the input: the machine after it, with its text at the start of `out`. A call that is lent less than 4,096 bytes for
+// the text ends the run.
+pub fn feed(
+    m: Machine,
+    byte: u8,
+    planes: &mut [u64; 7168],
+    pixels: &mut [u64; 512],
+    log: &mut [u64; 64],
+    scratch: &mut [u64; 1536],
+    values: &mut [u16; 512],
+    mattes: &mut [u8; 512],
+    out: &mut [u8],
+) -> Fed
+    ensures { λ r. ⌜ handed (r .machine) (r .written) (buffers (now (planes .exit)) (now (pixels .exit)) (now (log .exit)) (now (scratch .exit)) (now (values .exit)) (now (mattes .exit))) (now (out .exit)) ≡ feedCall m byte (buffers (now (planes .entry)) (now (pixels .entry)) (now (log .entry)) (now (scratch .entry)) (now (values .entry)) (now (mattes .entry))) (now (out .entry)) ⌝ }
+    ensures { λ r. ⌜ r .written ≤ length (now (out .entry)) ⌝ }
+{
+    if out.len() < 4096 {
+        return Fed {
+            machine: moved(m, Stage::Ended),
+            written: 0,
+        };
+    }
+    let stage = m.stage;
+    match stage {
+        Stage::Ended => Fed {
+            machine: m,
+            written: 0,
+        },
+        Stage::Closed => follow(
+            take(m, byte),
+            planes,
+            pixels,
+            log,
+            scratch,
+            values,
+            mattes,
+            out,
+        ),
+        Stage::Opened(_) => follow(
+            take(m, byte),
+            planes,
+            pixels,
+            log,
+            scratch,
+            values,
+            mattes,
+            out,
+        ),
+    }
+}
+
+// The end of a run that has not stopped: 14 where a body is cut short, else the record count.
+fn end(m: Machine, out: &mut [u8]) -> usize
+    requires { ⌜ 4096 ≤ length (now out) ⌝ }
+    ensures { λ r. ⌜ Wrote (now (out .entry)) 0 (endText m) (now (out .exit)) r ⌝ }
+{
+    if m.held < m.whole {
+        let done = stop(Stop::Body, m.count, out);
+        return done.written;
+    }
+    text::done(out, m.count)
+}
+
+// The end of the input: how many bytes of text stand at the start of `out` then.
+pub fn finish(m: Machine, out: &mut [u8]) -> usize
+    ensures { λ r. ⌜ closing (now (out .exit)) r ≡ finishCall m (now (out .entry)) ⌝ }
+    ensures { λ r. ⌜ r ≤ length (now (out .entry)) ⌝ }
+{
+    if out.len() < 4096 {
+        return 0;
+    }
+    let stage = m.stage;
+    match stage {
+        Stage::Ended => 0,
+        Stage::Closed => end(m, out),
+        Stage::Opened(_) => end(m, out),
+    }
+}

@@ -1,0 +1,142 @@
+// Records, as they are read from the input.
+use kernels::ShapeRead;
+use plate::word::Pixel;
+ghost use mathlib.Core.Path.{_≡_};
+ghost use Prim.Native.Nat.{_+_, _*_, _^_, _<_};
+ghost use lib.ListN.{getD};
+ghost use Rattle.kernels.specs.Shape.{shapeOf};
+ghost use Rattle.records.specs.Record.{stopNumber, lengthOf, bodyLength, pair, putRecord, recordOf};
+
+// A put's place, and the pixel that it asks for.
+pub struct Stroke {
+    pub x: usize,
+    pub y: usize,
+    pub pixel: Pixel,
+}
+
+// The sizes that an open asks for.
+pub struct Asked {
+    pub width: usize,
+    pub height: usize,
+    pub reach: usize,
+}
+
+// A put whose shape byte names no shape: what is left to refuse it by.
+pub struct Shapeless {
+    pub x: usize,
+    pub y: usize,
+    pub value: u16,
+}
+
+// One record with its whole body.
+pub enum Record {
+    Open(Asked),
+    Put(Stroke),
+    NoShape(Shapeless),
+    Undo,
+    Show,
+}
+
+// Why a run stops: the paper's numbers 1 and 13 to 16.
+pub enum Stop {
+    Sizes,
+    Kind,
+    Body,
+    Order,
+    Cells,
+}
+
+// The bytes of a kind's body, or that there is no such kind.
+pub enum Length {
+    Bytes(usize),
+    Unknown,
+}
+
+// The number of a stop in the paper's table.
+pub(crate) fn stop_number(s: Stop) -> u64
+    ensures { λ r. ⌜ r ≡ stopNumber s ⌝ }
+{
+    match s {
+        Stop::Sizes => 1,
+        Stop::Kind => 13,
+        Stop::Body => 14,
+        Stop::Order => 15,
+        Stop::Cells => 16,
+    }
+}
+
+// The length of a kind's body.
+pub(crate) fn body_length(kind: u8) -> Length
+    ensures { λ r. ⌜ lengthOf r ≡ bodyLength kind ⌝ }
+{
+    match kind {
+        1 => Length::Bytes(5),
+        2 => Length::Bytes(9),
+        3 => Length::Bytes(0),
+        4 => Length::Bytes(0),
+        _ => Length::Unknown,
+    }
+}
+
+// A byte as a number of two bytes.
+fn wide(b: u8) -> u16
+    ensures { λ r. ⌜ (r ≡ b) × (r < 256) ⌝ }
+{
+    b as u16
+}
+
+// Two bytes of a body, little-endian.
+fn two(low: u8, high: u8) -> u16
+    ensures { λ r. ⌜ r ≡ low + 256 * high ⌝ }
+{
+    wide(low) + 256 * wide(high)
+}
+
+// The same, as a size or a coordinate.
+fn size(low: u8, high: u8) -> usize
+    ensures { λ r. ⌜ r ≡ low + 256 * high ⌝ }
+{
+    two(low, high) as usize
+}
+
+// A put, from its body: without a shape where its byte names none.
+fn read_put(body: [u8; 9]) -> Record
+    ensures { λ r. ⌜ r ≡ putRecord (shapeOf (getD body 7 0)) body ⌝ }
+{
+    let x = size(body[0], body[1]);
+    let y = size(body[2], body[3]);
+    let value = two(body[4], body[5]);
+    let ShapeRead::Known(shape) = kernels::shape::shape_of(body[7]) else {
+        return Record::NoShape(Shapeless { x: x, y: y, value: value });
+    };
+    Record::Put(Stroke {
+        x: x,
+        y: y,
+        pixel: Pixel {
+            value: value,
+            opacity: body[6],
+            shape: shape,
+            radius: body[8],
+        },
+    })
+}
+
+// The record of a known kind, from its body. The bytes past a body that is shorter are not looked at.
+pub(crate) fn read(kind: u8, body: [u8; 9]) -> Record
+    ensures { λ r. ⌜ r ≡ recordOf kind body ⌝ }
+{
+    if kind == 1 {
+        return Record::Open(Asked {
+            width: size(body[0], body[1]),
+            height: size(body[2], body[3]),
+            reach: body[4] as usize,
+        });
+    }
+    if kind == 2 {
+        return read_put(body);
+    }
+    if kind == 3 {
+        return Record::Undo;
+    }
+    Record::Show
+}

@@ -1,0 +1,160 @@
+// The text that a run prints, written into a lent slice from a place on. Each function answers the next place.
+ghost use mathlib.Core.Path.{_≡_};
+ghost use mathlib.Core.List.{[], _∷_, _++_};
+ghost use Prim.Native.Nat.{_+_, _*_, _^_, _<_, _≤_};
+ghost use lib.ListN.{length};
+ghost use Rattle.records.specs.Text.{decimal, space, numbered, doneLine, headLine, cellText, rowText, rowsText, showText};
+ghost use Rattle.records.specs.Written.{Wrote, gapText};
+
+// One byte.
+fn byte(out: &mut [u8], at: usize, b: u8) -> usize
+    requires { ⌜ at < length (now out) ⌝ }
+    ensures { λ r. ⌜ Wrote (now (out .entry)) at (b ∷ []) (now (out .exit)) r ⌝ }
+{
+    out[at] = b;
+    at + 1
+}
+
+// A number in decimal: first what stands before its last digit, if anything does.
+fn number(out: &mut [u8], at: usize, n: u64) -> usize
+    requires { ⌜ at + length (decimal n) ≤ length (now out) ⌝ }
+    ensures { λ r. ⌜ Wrote (now (out .entry)) at (decimal n) (now (out .exit)) r ⌝ }
+{
+    if n < 10 {
+        return byte(out, at, 48 + n as u8);
+    }
+    let next = number(out, at, n / 10);
+    byte(out, next, 48 + (n % 10) as u8)
+}
+
+// A word.
+fn word(out: &mut [u8], at: usize, w: &[u8]) -> usize
+    requires { ⌜ at + length (now w) ≤ length (now out) ⌝ }
+    ensures { λ r. ⌜ Wrote (now (out .entry)) at (now (w .entry)) (now (out .exit)) r ⌝ }
+{
+    let mut next = at;
+    for i in 0..w.len() {
+        let b = w[i];
+        next = byte(out, next, b);
+    }
+    next
+}
+
+// A space and a number.
+fn spaced(out: &mut [u8], at: usize, n: u64) -> usize
+    requires { ⌜ at + 1 + length (decimal n) ≤ length (now out) ⌝ }
+    ensures { λ r. ⌜ Wrote (now (out .entry)) at (space ∷ decimal n) (now (out .exit)) r ⌝ }
+{
+    let next = byte(out, at, b' ');
+    number(out, next, n)
+}
+
+// The line of a stop or a refusal, from the start on: a word, a number, and the record that it came at.
+pub(crate) fn line(out: &mut [u8], w: &[u8], n: u64, k: u64) -> usize
+    requires { ⌜ length (now w) + 48 ≤ length (now out) ⌝ }
+    ensures { λ r. ⌜ Wrote (now (out .entry)) 0 (numbered (now (w .entry)) n k) (now (out .exit)) r ⌝ }
+{
+    let one = word(out, 0, w);
+    let two = spaced(out, one, n);
+    let three = word(out, two, b" at");
+    let four = spaced(out, three, k);
+    byte(out, four, b'\n')
+}
+
+// The last line of a whole input.
+pub(crate) fn done(out: &mut [u8], k: u64) -> usize
+    requires { ⌜ 48 ≤ length (now out) ⌝ }
+    ensures { λ r. ⌜ Wrote (now (out .entry)) 0 (doneLine k) (now (out .exit)) r ⌝ }
+{
+    let one = word(out, 0, b"done");
+    let two = spaced(out, one, k);
+    byte(out, two, b'\n')
+}
+
+// The first line of a show.
+fn head(out: &mut [u8], w: u64, h: u64) -> usize
+    requires { ⌜ 48 ≤ length (now out) ⌝ }
+    ensures { λ r. ⌜ Wrote (now (out .entry)) 0 (headLine w h) (now (out .exit)) r ⌝ }
+    ensures { λ r. ⌜ r ≤ 48 ⌝ }
+{
+    let one = word(out, 0, b"plate");
+    let two = spaced(out, one, w);
+    let three = spaced(out, two, h);
+    byte(out, three, b'\n')
+}
+
+// A byte and a number of two bytes, as wide as `number` takes them.
+fn wide8(b: u8) -> u64
+    ensures { λ r. ⌜ (r ≡ b) × (r < 2 ^ 8) ⌝ }
+{
+    b as u64
+}
+
+fn wide16(v: u16) -> u64
+    ensures { λ r. ⌜ (r ≡ v) × (r < 2 ^ 16) ⌝ }
+{
+    v as u64
+}
+
+// The cell at a place: at most 5 and 3 digits, and the slash between.
+fn cell(out: &mut [u8], at: usize, values: &[u16], mattes: &[u8], i: usize) -> usize
+    requires { ⌜ (at + 9 ≤ length (now out)) × (i < length (now values)) × (i < length (now mattes)) ⌝ }
+    ensures { λ r. ⌜ Wrote (now (out .entry)) at (cellText (now (values .entry)) (now (mattes .entry)) i) (now (out .exit)) r ⌝ }
+    ensures { λ r. ⌜ r ≤ at + 9 ⌝ }
+{
+    let value = wide16(values[i]);
+    let matte = wide8(mattes[i]);
+    let one = number(out, at, value);
+    let two = byte(out, one, b'/');
+    number(out, two, matte)
+}
+
+// A space before each cell of a row but the first.
+fn gap(out: &mut [u8], at: usize, j: usize) -> usize
+    requires { ⌜ at < length (now out) ⌝ }
+    ensures { λ r. ⌜ Wrote (now (out .entry)) at (gapText j) (now (out .exit)) r ⌝ }
+    ensures { λ r. ⌜ r ≤ at + 1 ⌝ }
+{
+    if j == 0 {
+        return at;
+    }
+    byte(out, at, b' ')
+}
+
+// A row of w cells from a place on: at most 10 bytes for each.
+fn row(out: &mut [u8], at: usize, values: &[u16], mattes: &[u8], from: usize, w: usize) -> usize
+    requires { ⌜ (at + 10 * w ≤ length (now out)) × (from + w ≤ length (now values)) × (from + w ≤ length (now mattes)) ⌝ }
+    ensures { λ r. ⌜ Wrote (now (out .entry)) at (rowText (now (values .entry)) (now (mattes .entry)) from w) (now (out .exit)) r ⌝ }
+    ensures { λ r. ⌜ r ≤ at + 10 * w ⌝ }
+{
+    let mut next = at;
+    for j in 0..w {
+        let start = gap(out, next, j);
+        next = cell(out, start, values, mattes, from + j);
+    }
+    next
+}
+
+// The rows of a show, a line for each.
+fn rows(out: &mut [u8], at: usize, values: &[u16], mattes: &[u8], w: usize, h: usize) -> usize
+    requires { ⌜ (at + (10 * w + 1) * h ≤ length (now out)) × (h * w ≤ length (now values)) × (h * w ≤ length (now mattes)) ⌝ }
+    ensures { λ r. ⌜ Wrote (now (out .entry)) at (rowsText (now (values .entry)) (now (mattes .entry)) w h) (now (out .exit)) r ⌝ }
+{
+    let mut next = at;
+    let mut from = 0;
+    for y in 0..h {
+        let end = row(out, next, values, mattes, from, w);
+        next = byte(out, end, b'\n');
+        from += w;
+    }
+    next
+}
+
+// A show, from the start on.
+pub(crate) fn show(out: &mut [u8], values: &[u16], mattes: &[u8], w: usize, h: usize) -> usize
+    requires { ⌜ (48 + (10 * w + 1) * h ≤ length (now out)) × (h * w ≤ length (now values)) × (h * w ≤ length (now mattes)) ⌝ }
+    ensures { λ r. ⌜ Wrote (now (out .entry)) 0 (showText w h (now (values .entry)) (now (mattes .entry))) (now (out .exit)) r ⌝ }
+{
+    let next = head(out, w as u64, h as u64);
+    rows(out, next, values, mattes, w, h)
+}
