@@ -69,7 +69,7 @@ module _ (k : ℕ) (z : Size) (b : Buffers) (s : Sized b) where
       ∙ lent-pass z (sizedAs (lentOf z b)) Accepted
       (record {
         planes-are =
-          part-length (14 * cellsOf z) (b .planes) (omega (arith, s .planes-are)) ∙ ap (λ (n : ℕ). 14 * n) cells;
+            part-length (14 * cellsOf z) (b .planes) (omega (arith, s .planes-are)) ∙ ap (λ (n : ℕ). 14 * n) cells;
         pixels-are = part-length (placesOf z) (b .pixels) (omega (arith, s .pixels-are)) ∙ pixels;
         log-top = omega (arith, s .log-is);
       })

@@ -102,7 +102,7 @@ stands-live s b d (at-open z planes grid pile h small kept e) = tt
 
 goes-on : (k : ℕ) (a : Act) (d : Did) (s : Stage) (kind whole : ℕ) (body : List ℕ) (xs : List ℕ) (rest : Desk → List ℕ) → Agrees k a d
     → ((t : Stage) (b : Buffers) (book : Book) → Stands t b (opened book)
-      → run (machine t kind whole whole body k) b xs ≡ rest (opened book))
+    → run (machine t kind whole whole body k) b xs ≡ rest (opened book))
     → onward (doneBy (machine s kind whole whole body k) d) xs ≡ thenText k a rest
 goes-on k (stop why) d s kind whole body xs rest agrees after =
     rw (agrees .0, agrees .1, run-ended kind whole whole body k (d .buffers) xs) (append-nil (stopText k why))

@@ -101,7 +101,7 @@ pub show-is : (k : ℕ) (s : State) (b : Buffers) (n t m : ℕ) {scratch values 
     d (views scratch values mattes) out after
     → done d
     (buffers (b .planes) (b .pixels) (b .log) (scratch ++ drop t (b .scratch)) (values ++ drop m (b .values))
-      (mattes ++ drop m (b .mattes)))
+    (mattes ++ drop m (b .mattes)))
     after
     ≡ doneOf (showOn k s b) out
 unfolding showOn viewsOf viewsBack

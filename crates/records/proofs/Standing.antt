@@ -97,10 +97,10 @@ pub answered-agrees : (k : ℕ) (z : Size) (b : Buffers) (grid : List Pixel) (pi
     → Agree z 64 (stepOf l) t → Agrees k (bookAnswered k (bookOf z 64 grid pile) t) (answered k z l b)
 unfolding answered
 answered-agrees k z b grid pile l t h s a = (
-      plain-text k z (outcomeNumber (l .answer .outcome)) (l .answer .marks) ∙ ap (reportText k z) (a .same-report),
-      rw (ap (λ (p : Plate). p .state) (a .same-plate), a .same-book)
+  plain-text k z (outcomeNumber (l .answer .outcome)) (l .answer .marks) ∙ ap (reportText k z) (a .same-report),
+  rw (ap (λ (p : Plate). p .state) (a .same-plate), a .same-book)
       (open-again z b (l .kept) (a .planes) (a .grid) (a .pile) h s (ap (λ (p : Plate). p .kept) (a .same-plate)) (a .kept)),
-    )
+)
 
 -- SHOW
 pub part-length : (n : ℕ) (whole : List ℕ) → n ≤ length whole → length (take n whole) ≡ n
@@ -116,12 +116,13 @@ views-fit z b h s =
     let small = places-few z in
     rw (
       passes _ _ _ (length-pass (length (take (3 * cellsOf z) (b .scratch))) (3 * padded z)
-        (part-length (3 * cellsOf z) (b .scratch) (omega (arith, s .scratch-is)) ∙ ap (λ (n : ℕ). 3 * n) cells)),
+          (part-length (3 * cellsOf z) (b .scratch) (omega (arith, s .scratch-is)) ∙ ap (λ (n : ℕ). 3 * n) cells)),
       passes _ _ _ (length-pass (length (take (placesOf z) (b .values))) (places z)
-        (part-length (placesOf z) (b .values) (omega (arith, s .values-are)) ∙ pictures)),
+          (part-length (placesOf z) (b .values) (omega (arith, s .values-are)) ∙ pictures)),
       passes _ _ _ (length-pass (length (take (placesOf z) (b .mattes))) (places z)
-        (part-length (placesOf z) (b .mattes) (omega (arith, s .mattes-are)) ∙ pictures)),
+          (part-length (placesOf z) (b .mattes) (omega (arith, s .mattes-are)) ∙ pictures)),
     )
+
 -- an accepted show keeps the lengths of what it is lent
 shown-by : (z : Size) (n : ℕ) (planes : List ℕ) (v : Views) → Lawful z → length planes ≡ 14 * padded z
     → viewsCheck z (length (v .scratch)) (length (v .values)) (length (v .mattes)) ≡ Accepted
@@ -196,8 +197,7 @@ show-agree k z planes grid pile b h s kept e =
     rw turn at (show-agrees z 64 planes grid pile kept v) in
     let lengths : Sized (viewsBack z (seen .seen) b) =
     rw (shown-by z (length pile) planes v (kept .lawful) (kept .cells-count) fit) (shown-sized z (length pile) planes b h s) in
-    rw part
-    (
+    rw part (
       seen-text k z (seen .answer .outcome) (seen .answer .marks) (seen .seen) ∙ ap (reportText k z) (a .same-report),
       show-stands z b seen planes grid pile _ h lengths e a,
     )

@@ -207,7 +207,16 @@ fn follow(
             let whole = record::read(m.kind, body);
             let stage = m.stage;
             let done = perform(
-                stage, whole, m.count, planes, pixels, log, scratch, values, mattes, out,
+                stage,
+                whole,
+                m.count,
+                planes,
+                pixels,
+                log,
+                scratch,
+                values,
+                mattes,
+                out,
             );
             let now = done.stage;
             Fed {

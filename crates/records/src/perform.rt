@@ -43,7 +43,10 @@ struct Lends {
 fn room(width: usize, height: usize, reach: usize) -> Lends
     ensures { λ r. ⌜ (r .cells ≡ cellsOf (record { width = width; height = height; reach = reach })) × (r .places ≡ placesOf (record { width = width; height = height; reach = reach })) ⌝ }
 {
-    let none = Lends { cells: 0, places: 0 };
+    let none = Lends {
+        cells: 0,
+        places: 0,
+    };
     if 512 < width {
         return none;
     }
@@ -379,7 +382,20 @@ fn on_open(
     match item {
         Record::Open(_) => stop(Stop::Order, k, out),
         Record::Put(stroke) => put_stroke(state, stroke, k, planes, pixels, log, out),
-        Record::NoShape(p) => put_on(state, p.x, p.y, p.value, 0, 6, 0, k, planes, pixels, log, out),
+        Record::NoShape(p) => put_on(
+            state,
+            p.x,
+            p.y,
+            p.value,
+            0,
+            6,
+            0,
+            k,
+            planes,
+            pixels,
+            log,
+            out,
+        ),
         Record::Undo => undo_on(state, k, planes, pixels, log, out),
         Record::Show => show_on(state, k, planes, scratch, values, mattes, out),
     }
@@ -404,7 +420,16 @@ pub(crate) fn perform(
     match stage {
         Stage::Closed => on_closed(item, k, planes, pixels, log, out),
         Stage::Opened(state) => on_open(
-            state, item, k, planes, pixels, log, scratch, values, mattes, out,
+            state,
+            item,
+            k,
+            planes,
+            pixels,
+            log,
+            scratch,
+            values,
+            mattes,
+            out,
         ),
         Stage::Ended => Done {
             stage: Stage::Ended,

@@ -107,7 +107,11 @@ fn read_put(body: [u8; 9]) -> Record
     let y = size(body[2], body[3]);
     let value = two(body[4], body[5]);
     let ShapeRead::Known(shape) = kernels::shape::shape_of(body[7]) else {
-        return Record::NoShape(Shapeless { x: x, y: y, value: value });
+        return Record::NoShape(Shapeless {
+            x: x,
+            y: y,
+            value: value,
+        });
     };
     Record::Put(Stroke {
         x: x,

@@ -6,10 +6,6 @@ use Rattle.records.specs.Machine.{begunBy, begunOf}
 use borrow.Author.Needs.{needs}
 use Rattle.records.proofs.machine.begun.Statement.{statement}
 use Rattle.records.proofs.machine.begun.Tie as tie
-use Rattle.records.proofs.machine.begun.Reads as reads
-use Rattle.records.proofs.machine.begun.Lts as lts
-use Rattle.records.proofs.machine.settled.Reads as settled-reads
-use Rattle.records.proofs.record.body_length.Reads as body-length-reads
 
 returns : tie.Need-returns
 unfolding begunOf

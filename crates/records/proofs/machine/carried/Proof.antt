@@ -5,9 +5,6 @@ use Rattle.records.specs.Machine.{carriedOf}
 use borrow.Author.Needs.{needs}
 use Rattle.records.proofs.machine.carried.Statement.{statement}
 use Rattle.records.proofs.machine.carried.Tie as tie
-use Rattle.records.proofs.machine.carried.Reads as reads
-use Rattle.records.proofs.machine.carried.Lts as lts
-use Rattle.records.proofs.machine.settled.Reads as settled-reads
 
 returns : tie.Need-returns
 unfolding carriedOf

@@ -5,10 +5,6 @@ use Rattle.records.specs.Machine.{endText}
 use borrow.Author.Needs.{needs}
 use Rattle.records.proofs.machine.end.Statement.{statement}
 use Rattle.records.proofs.machine.end.Tie as tie
-use Rattle.records.proofs.machine.end.Reads as reads
-use Rattle.records.proofs.machine.end.Lts as lts
-use Rattle.records.proofs.perform.stop.Reads as stop-reads
-use Rattle.records.proofs.text.done.Reads as done-reads
 
 stop-requires : tie.Need-stop-requires
 stop-requires c κs = search needs

@@ -7,11 +7,6 @@ use Rattle.records.proofs.Performing.{handed-nothing, fed-closed, fed-o
 use borrow.Author.Needs.{needs}
 use Rattle.records.proofs.machine.feed.Statement.{statement}
 use Rattle.records.proofs.machine.feed.Tie as tie
-use Rattle.records.proofs.machine.feed.Reads as reads
-use Rattle.records.proofs.machine.feed.Lts as lts
-use Rattle.records.proofs.machine.follow.Reads as follow-reads
-use Rattle.records.proofs.machine.moved.Reads as moved-reads
-use Rattle.records.proofs.machine.take.Reads as take-reads
 
 moved-requires : tie.Need-moved-requires
 moved-requires c κs = search needs
@@ -19,10 +14,9 @@ moved-requires c κs = search needs
 returns : tie.Need-returns
 unfolding feedCall
 returns c =
-    let a = c .before .before .before .args in
-    (
+    let a = c .before .before .before .args in (
       rw (lt-ltb (length (a .out .now)) 4096 (omega arith), c .moved .ensures)
-      (handed-nothing _ (buffers (a .planes .now) (a .pixels .now) (a .log .now) (a .scratch .now) (a .values .now) (a .mattes .now)) (a .out .now)),
+          (handed-nothing _ (buffers (a .planes .now) (a .pixels .now) (a .log .now) (a .scratch .now) (a .values .now) (a .mattes .now)) (a .out .now)),
       omega arith,
     )
 
@@ -51,10 +45,9 @@ returns-2 : tie.Need-returns-2
 unfolding feedCall
 returns-2 c =
     let a = c .before .before .before .before .args in
-    let b = buffers (a .planes .now) (a .pixels .now) (a .log .now) (a .scratch .now) (a .values .now) (a .mattes .now) in
-    (
+    let b = buffers (a .planes .now) (a .pixels .now) (a .log .now) (a .scratch .now) (a .values .now) (a .mattes .now) in (
       rw (le-ltb (length (a .out .now)) 4096 (omega arith), fed-ended (a .m) (a .byte) b (c .enum-told .given .1))
-      (handed-nothing (a .m) b (a .out .now)),
+          (handed-nothing (a .m) b (a .out .now)),
       omega arith,
     )
 
@@ -65,14 +58,13 @@ returns-3 : tie.Need-returns-3
 unfolding feedCall
 returns-3 c =
     let a = c .before .before .before .before .before .before .before .before .before .before .before .before .before .before .before .args in
-    let b = buffers (a .planes .now) (a .pixels .now) (a .log .now) (a .scratch .now) (a .values .now) (a .mattes .now) in
-    (
+    let b = buffers (a .planes .now) (a .pixels .now) (a .log .now) (a .scratch .now) (a .values .now) (a .mattes .now) in (
       rw (
         le-ltb (length (a .out .now)) 4096 (omega arith),
         fed-closed (a .m) (a .byte) b (c .before .before .before .before .before .before .before .before .before .before .before .enum-told2 .given .1),
         ← c .before .before .before .before .before .before .before .before .before .before .take .ensures,
       )
-      (c .before .before .follow .ensures),
+          (c .before .before .follow .ensures),
       handed-room _ _ _ _ (a .out .now) _ (c .before .before .follow .ensures) (c .before .before .follow .kept .1 .1 .1 .1 .1 .1 .1 .0),
     )
 
@@ -83,14 +75,13 @@ returns-4 : tie.Need-returns-4
 unfolding feedCall
 returns-4 c =
     let a = c .before .before .before .before .before .before .before .before .before .before .before .before .before .before .before .args in
-    let b = buffers (a .planes .now) (a .pixels .now) (a .log .now) (a .scratch .now) (a .values .now) (a .mattes .now) in
-    (
+    let b = buffers (a .planes .now) (a .pixels .now) (a .log .now) (a .scratch .now) (a .values .now) (a .mattes .now) in (
       rw (
         le-ltb (length (a .out .now)) 4096 (omega arith),
         fed-opened (a .m) (a .byte) b _ (c .before .before .before .before .before .before .before .before .before .before .before .enum-told3 .given .1),
         ← c .before .before .before .before .before .before .before .before .before .before .take2 .ensures,
       )
-      (c .before .before .follow2 .ensures),
+          (c .before .before .follow2 .ensures),
       handed-room _ _ _ _ (a .out .now) _ (c .before .before .follow2 .ensures) (c .before .before .follow2 .kept .1 .1 .1 .1 .1 .1 .1 .0),
     )
 

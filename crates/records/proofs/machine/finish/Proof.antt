@@ -7,15 +7,11 @@ use Rattle.records.proofs.Performing.{end-closed, end-opened, end-ended
 use borrow.Author.Needs.{needs}
 use Rattle.records.proofs.machine.finish.Statement.{statement}
 use Rattle.records.proofs.machine.finish.Tie as tie
-use Rattle.records.proofs.machine.finish.Reads as reads
-use Rattle.records.proofs.machine.finish.Lts as lts
-use Rattle.records.proofs.machine.end.Reads as end-reads
 
 returns : tie.Need-returns
 unfolding finishCall
 returns c =
-    let a = c .before .before .args in
-    (
+    let a = c .before .before .args in (
       rw (lt-ltb (length (a .out .now)) 4096 (omega arith)) (closing-nothing (a .out .now)),
       omega arith,
     )
@@ -38,8 +34,7 @@ end-requires-2 c κs = search needs
 returns-2 : tie.Need-returns-2
 unfolding finishCall
 returns-2 c =
-    let a = c .before .before .before .before .args in
-    (
+    let a = c .before .before .before .before .args in (
       rw (le-ltb (length (a .out .now)) 4096 (omega arith), end-ended (a .m) (c .enum-told .given .1)) (closing-nothing (a .out .now)),
       omega arith,
     )
@@ -50,10 +45,9 @@ same-length c = search needs
 returns-3 : tie.Need-returns-3
 unfolding finishCall
 returns-3 c =
-    let a = c .before .before .before .before .before .before .before .before .args in
-    (
+    let a = c .before .before .before .before .before .before .before .before .args in (
       rw (le-ltb (length (a .out .now)) 4096 (omega arith), end-closed (a .m) (c .before .before .before .before .enum-told2 .given .1))
-      (closing-is (endText (a .m)) (c .before .before .end .ensures)),
+          (closing-is (endText (a .m)) (c .before .before .end .ensures)),
       closing-room _ _ (a .out .now) (endText (a .m)) (closing-is (endText (a .m)) (c .before .before .end .ensures)) (c .before .before .end .kept .1 .0),
     )
 
@@ -63,10 +57,9 @@ same-length-2 c = search needs
 returns-4 : tie.Need-returns-4
 unfolding finishCall
 returns-4 c =
-    let a = c .before .before .before .before .before .before .before .before .args in
-    (
+    let a = c .before .before .before .before .before .before .before .before .args in (
       rw (le-ltb (length (a .out .now)) 4096 (omega arith), end-opened (a .m) _ (c .before .before .before .before .enum-told3 .given .1))
-      (closing-is (endText (a .m)) (c .before .before .end2 .ensures)),
+          (closing-is (endText (a .m)) (c .before .before .end2 .ensures)),
       closing-room _ _ (a .out .now) (endText (a .m)) (closing-is (endText (a .m)) (c .before .before .end2 .ensures)) (c .before .before .end2 .kept .1 .0),
     )
 

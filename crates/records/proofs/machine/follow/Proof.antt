@@ -6,12 +6,6 @@ use Rattle.records.proofs.Performing.{stop-is, handed-nothing, handed-d
 use borrow.Author.Needs.{needs}
 use Rattle.records.proofs.machine.follow.Statement.{statement}
 use Rattle.records.proofs.machine.follow.Tie as tie
-use Rattle.records.proofs.machine.follow.Reads as reads
-use Rattle.records.proofs.machine.follow.Lts as lts
-use Rattle.records.proofs.machine.moved.Reads as moved-reads
-use Rattle.records.proofs.perform.perform.Reads as perform-reads
-use Rattle.records.proofs.perform.stop.Reads as stop-reads
-use Rattle.records.proofs.record.read.Reads as read-reads
 
 enum-told : tie.Need-enum-told
 enum-told c = search needs

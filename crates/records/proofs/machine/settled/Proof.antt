@@ -4,8 +4,6 @@ use borrow.Author.Tests.{lt-ltb, le-ltb}
 use Rattle.records.specs.Machine.{settledOf}
 use Rattle.records.proofs.machine.settled.Statement.{statement}
 use Rattle.records.proofs.machine.settled.Tie as tie
-use Rattle.records.proofs.machine.settled.Reads as reads
-use Rattle.records.proofs.machine.settled.Lts as lts
 
 returns : tie.Need-returns
 unfolding settledOf

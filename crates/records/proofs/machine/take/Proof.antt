@@ -5,10 +5,6 @@ use Rattle.records.specs.Machine.{takenOf}
 use borrow.Author.Needs.{needs}
 use Rattle.records.proofs.machine.take.Statement.{statement}
 use Rattle.records.proofs.machine.take.Tie as tie
-use Rattle.records.proofs.machine.take.Reads as reads
-use Rattle.records.proofs.machine.take.Lts as lts
-use Rattle.records.proofs.machine.begun.Reads as begun-reads
-use Rattle.records.proofs.machine.carried.Reads as carried-reads
 
 carried-requires : tie.Need-carried-requires
 carried-requires c κs = search needs

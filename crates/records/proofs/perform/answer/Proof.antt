@@ -5,9 +5,6 @@ use Rattle.records.proofs.Performing.{no-answer, an-answer}
 use borrow.Author.Needs.{needs}
 use Rattle.records.proofs.perform.answer.Statement.{statement}
 use Rattle.records.proofs.perform.answer.Tie as tie
-use Rattle.records.proofs.perform.answer.Reads as reads
-use Rattle.records.proofs.perform.answer.Lts as lts
-use Rattle.records.proofs.text.line.Reads as line-reads
 
 returns : tie.Need-returns
 returns c =

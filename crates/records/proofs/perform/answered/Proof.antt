@@ -3,10 +3,6 @@ use mathlib.Core.Path.{refl}
 use borrow.Author.Needs.{needs}
 use Rattle.records.proofs.perform.answered.Statement.{statement}
 use Rattle.records.proofs.perform.answered.Tie as tie
-use Rattle.records.proofs.perform.answered.Reads as reads
-use Rattle.records.proofs.perform.answered.Lts as lts
-use Rattle.records.proofs.perform.answer.Reads as answer-reads
-use Rattle.records.proofs.perform.outcome_number.Reads as outcome-number-reads
 
 outcome-number-requires : tie.Need-outcome-number-requires
 outcome-number-requires c κs = search needs

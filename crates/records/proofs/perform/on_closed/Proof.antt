@@ -5,10 +5,6 @@ use Rattle.records.proofs.Performing.{stop-is}
 use borrow.Author.Needs.{needs}
 use Rattle.records.proofs.perform.on_closed.Statement.{statement}
 use Rattle.records.proofs.perform.on_closed.Tie as tie
-use Rattle.records.proofs.perform.on_closed.Reads as reads
-use Rattle.records.proofs.perform.on_closed.Lts as lts
-use Rattle.records.proofs.perform.open_on.Reads as open-on-reads
-use Rattle.records.proofs.perform.stop.Reads as stop-reads
 
 enum-known-item : tie.Need-enum-known-item
 enum-known-item c = search needs

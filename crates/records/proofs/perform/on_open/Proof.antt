@@ -5,13 +5,6 @@ use Rattle.records.proofs.Performing.{stop-is}
 use borrow.Author.Needs.{needs}
 use Rattle.records.proofs.perform.on_open.Statement.{statement}
 use Rattle.records.proofs.perform.on_open.Tie as tie
-use Rattle.records.proofs.perform.on_open.Reads as reads
-use Rattle.records.proofs.perform.on_open.Lts as lts
-use Rattle.records.proofs.perform.put_on.Reads as put-on-reads
-use Rattle.records.proofs.perform.put_stroke.Reads as put-stroke-reads
-use Rattle.records.proofs.perform.show_on.Reads as show-on-reads
-use Rattle.records.proofs.perform.stop.Reads as stop-reads
-use Rattle.records.proofs.perform.undo_on.Reads as undo-on-reads
 
 enum-told : tie.Need-enum-told
 enum-told c = search needs

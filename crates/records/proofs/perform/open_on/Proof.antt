@@ -11,11 +11,6 @@ use Rattle.records.proofs.Performing.{open-is}
 use borrow.Author.Needs.{needs}
 use Rattle.records.proofs.perform.open_on.Statement.{statement}
 use Rattle.records.proofs.perform.open_on.Tie as tie
-use Rattle.records.proofs.perform.open_on.Reads as reads
-use Rattle.records.proofs.perform.open_on.Lts as lts
-use Rattle.plate.proofs.open.open.Reads as open-reads
-use Rattle.records.proofs.perform.opened.Reads as opened-reads
-use Rattle.records.proofs.perform.room.Reads as room-reads
 
 abbrev askedSize : Asked → Size
 askedSize a = record { width = a .width; height = a .height; reach = a .reach }

@@ -6,10 +6,6 @@ use Rattle.records.proofs.Performing.{opened-is, not-opened-is}
 use borrow.Author.Needs.{needs}
 use Rattle.records.proofs.perform.opened.Statement.{statement}
 use Rattle.records.proofs.perform.opened.Tie as tie
-use Rattle.records.proofs.perform.opened.Reads as reads
-use Rattle.records.proofs.perform.opened.Lts as lts
-use Rattle.records.proofs.perform.outcome_number.Reads as outcome-number-reads
-use Rattle.records.proofs.perform.stop.Reads as stop-reads
 
 outcome-number-requires : tie.Need-outcome-number-requires
 outcome-number-requires c κs = search needs

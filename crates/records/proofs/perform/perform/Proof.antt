@@ -8,10 +8,6 @@ use Rattle.records.proofs.Performing.{done-is}
 use borrow.Author.Needs.{needs}
 use Rattle.records.proofs.perform.perform.Statement.{statement}
 use Rattle.records.proofs.perform.perform.Tie as tie
-use Rattle.records.proofs.perform.perform.Reads as reads
-use Rattle.records.proofs.perform.perform.Lts as lts
-use Rattle.records.proofs.perform.on_closed.Reads as on-closed-reads
-use Rattle.records.proofs.perform.on_open.Reads as on-open-reads
 
 enum-told : tie.Need-enum-told
 enum-told c = search needs

@@ -11,11 +11,6 @@ use Rattle.records.proofs.Performing.{answered-is}
 use borrow.Author.Needs.{needs}
 use Rattle.records.proofs.perform.put_on.Statement.{statement}
 use Rattle.records.proofs.perform.put_on.Tie as tie
-use Rattle.records.proofs.perform.put_on.Reads as reads
-use Rattle.records.proofs.perform.put_on.Lts as lts
-use Rattle.plate.proofs.put.put.Reads as put-reads
-use Rattle.records.proofs.perform.answered.Reads as answered-reads
-use Rattle.records.proofs.perform.room.Reads as room-reads
 
 room-requires : tie.Need-room-requires
 room-requires c κs = search needs

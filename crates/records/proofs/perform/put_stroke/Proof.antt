@@ -2,10 +2,6 @@
 use borrow.Author.Needs.{needs}
 use Rattle.records.proofs.perform.put_stroke.Statement.{statement}
 use Rattle.records.proofs.perform.put_stroke.Tie as tie
-use Rattle.records.proofs.perform.put_stroke.Reads as reads
-use Rattle.records.proofs.perform.put_stroke.Lts as lts
-use Rattle.kernels.proofs.shape.number.Reads as number-reads
-use Rattle.records.proofs.perform.put_on.Reads as put-on-reads
 
 number-requires : tie.Need-number-requires
 number-requires c κs = search needs

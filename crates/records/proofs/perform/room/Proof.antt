@@ -8,8 +8,6 @@ use Rattle.records.proofs.Lends.{few, none, long, tall}
 use borrow.Author.Needs.{needs}
 use Rattle.records.proofs.perform.room.Statement.{statement}
 use Rattle.records.proofs.perform.room.Tie as tie
-use Rattle.records.proofs.perform.room.Reads as reads
-use Rattle.records.proofs.perform.room.Lts as lts
 
 returns : tie.Need-returns
 returns c =

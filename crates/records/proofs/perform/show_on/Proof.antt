@@ -10,10 +10,6 @@ use Rattle.records.proofs.Performing.{show-is}
 use borrow.Author.Needs.{needs}
 use Rattle.records.proofs.perform.show_on.Statement.{statement}
 use Rattle.records.proofs.perform.show_on.Tie as tie
-use Rattle.records.proofs.perform.show_on.Reads as reads
-use Rattle.records.proofs.perform.show_on.Lts as lts
-use Rattle.records.proofs.perform.room.Reads as room-reads
-use Rattle.records.proofs.perform.show_parts.Reads as show-parts-reads
 
 room-requires : tie.Need-room-requires
 room-requires c κs = search needs

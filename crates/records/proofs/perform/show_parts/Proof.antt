@@ -9,10 +9,6 @@ use Rattle.records.proofs.Shows.{few-shown, text-fits}
 use borrow.Author.Needs.{needs}
 use Rattle.records.proofs.perform.show_parts.Statement.{statement}
 use Rattle.records.proofs.perform.show_parts.Tie as tie
-use Rattle.records.proofs.perform.show_parts.Reads as reads
-use Rattle.records.proofs.perform.show_parts.Lts as lts
-use Rattle.plate.proofs.show.show.Reads as show-reads
-use Rattle.records.proofs.perform.shown.Reads as shown-reads
 
 show-requires : tie.Need-show-requires
 show-requires c κs = search needs
@@ -22,15 +18,14 @@ shown-requires c κs =
     let start = c .before .before .before .before .before .before .before .before .before .before .before .before .before .before .before .before .before .before in
     let a = start .args in
     let z = sizeOf (a .state) in
-    let call = c .before .before .before .before .before .before .before .before .before .show in
-    (
+    let call = c .before .before .before .before .before .before .before .before .before .show in (
       start .pre .out-room,
       λ e.
-      let small = few-shown (a .state) (a .planes .now) (views (a .scratch .now) (a .values .now) (a .mattes .now)) (call .result)
+          let small = few-shown (a .state) (a .planes .now) (views (a .scratch .now) (a .values .now) (a .mattes .now)) (call .result)
           (call .ensures) (start .pre .planes-are) e in
-      let all = few z (places z) small in
-      let turned = mul-comm (a .state .height) (a .state .width) in
-      (text-fits z small, omega (arith, call .kept .1 .1 .1 .0, start .pre .values-are), omega (arith, call .kept .1 .1 .1 .1 .0, start .pre .mattes-are)),
+          let all = few z (places z) small in
+          let turned = mul-comm (a .state .height) (a .state .width) in
+          (text-fits z small, omega (arith, call .kept .1 .1 .1 .0, start .pre .values-are), omega (arith, call .kept .1 .1 .1 .1 .0, start .pre .mattes-are)),
     )
 
 same-length : tie.Need-same-length

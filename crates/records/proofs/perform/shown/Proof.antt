@@ -5,11 +5,6 @@ use Rattle.records.proofs.Performing.{shown-yes, shown-no}
 use borrow.Author.Needs.{needs}
 use Rattle.records.proofs.perform.shown.Statement.{statement}
 use Rattle.records.proofs.perform.shown.Tie as tie
-use Rattle.records.proofs.perform.shown.Reads as reads
-use Rattle.records.proofs.perform.shown.Lts as lts
-use Rattle.records.proofs.perform.answer.Reads as answer-reads
-use Rattle.records.proofs.perform.outcome_number.Reads as outcome-number-reads
-use Rattle.records.proofs.text.show.Reads as show-reads
 
 outcome-number-requires : tie.Need-outcome-number-requires
 outcome-number-requires c κs = search needs
@@ -39,14 +34,13 @@ same-length-2 c = search needs
 returns-2 : tie.Need-returns-2
 returns-2 c =
     let a = c .before .before .before .before .before .before .before .before .before .before .args in
-    let told = c .before .before .before .before .before .outcome-number .ensures in
-    (
+    let told = c .before .before .before .before .before .outcome-number .ensures in (
       refl,
       rw (
         shown-no (a .k) (a .width) (a .height) (a .a .outcome) (a .values .now) (a .mattes .now) (omega arith),
         ← told,
       )
-      (c .before .before .answer .ensures),
+          (c .before .before .answer .ensures),
     )
 
 pub shown-spec : {M : Type 1} → statement M

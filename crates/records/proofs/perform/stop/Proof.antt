@@ -3,10 +3,6 @@ use mathlib.Core.Path.{refl}
 use borrow.Author.Needs.{needs}
 use Rattle.records.proofs.perform.stop.Statement.{statement}
 use Rattle.records.proofs.perform.stop.Tie as tie
-use Rattle.records.proofs.perform.stop.Reads as reads
-use Rattle.records.proofs.perform.stop.Lts as lts
-use Rattle.records.proofs.record.stop_number.Reads as stop-number-reads
-use Rattle.records.proofs.text.line.Reads as line-reads
 
 slice-aggregate-line : tie.Need-slice-aggregate-line
 slice-aggregate-line c = search needs

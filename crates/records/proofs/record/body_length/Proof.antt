@@ -5,8 +5,6 @@ use Rattle.records.proofs.Bodies.{unknown-kind}
 use borrow.Author.Needs.{needs}
 use Rattle.records.proofs.record.body_length.Statement.{statement}
 use Rattle.records.proofs.record.body_length.Tie as tie
-use Rattle.records.proofs.record.body_length.Reads as reads
-use Rattle.records.proofs.record.body_length.Lts as lts
 
 returns : tie.Need-returns
 returns c = search needs

@@ -5,10 +5,6 @@ use Rattle.records.specs.Record.{recordOf}
 use borrow.Author.Needs.{needs}
 use Rattle.records.proofs.record.read.Statement.{statement}
 use Rattle.records.proofs.record.read.Tie as tie
-use Rattle.records.proofs.record.read.Reads as reads
-use Rattle.records.proofs.record.read.Lts as lts
-use Rattle.records.proofs.record.read_put.Reads as read-put-reads
-use Rattle.records.proofs.record.size.Reads as size-reads
 
 array-read-size : tie.Need-array-read-size
 array-read-size c = search needs

@@ -2,11 +2,6 @@
 use borrow.Author.Needs.{needs}
 use Rattle.records.proofs.record.read_put.Statement.{statement}
 use Rattle.records.proofs.record.read_put.Tie as tie
-use Rattle.records.proofs.record.read_put.Reads as reads
-use Rattle.records.proofs.record.read_put.Lts as lts
-use Rattle.kernels.proofs.shape.shape_of.Reads as shape-of-reads
-use Rattle.records.proofs.record.size.Reads as size-reads
-use Rattle.records.proofs.record.two.Reads as two-reads
 
 array-read-size : tie.Need-array-read-size
 array-read-size c = search needs

@@ -7,12 +7,6 @@ use Rattle.records.proofs.Decimals.{decimal-short}
 use borrow.Author.Needs.{needs}
 use Rattle.records.proofs.text.cell.Statement.{statement}
 use Rattle.records.proofs.text.cell.Tie as tie
-use Rattle.records.proofs.text.cell.Reads as reads
-use Rattle.records.proofs.text.cell.Lts as lts
-use Rattle.records.proofs.text.byte.Reads as byte-reads
-use Rattle.records.proofs.text.number.Reads as number-reads
-use Rattle.records.proofs.text.wide16.Reads as wide16-reads
-use Rattle.records.proofs.text.wide8.Reads as wide8-reads
 
 mul-wide16 : tie.Need-mul-wide16
 mul-wide16 c = search needs
@@ -81,10 +75,9 @@ returns c =
     let m = c .before .before .before .before .before .before .before .before .before .before .before .before .wide8 in
     let one = c .before .before .before .before .before .before .before .before .before .before .number in
     let two = c .before .before .before .before .before .before .byte in
-    let three = c .before .before .number2 in
-    (
+    let three = c .before .before .number2 in (
       rw (← v .ensures .0, ← m .ensures .0)
-      (then-wrote (one .ensures) (then-wrote (two .ensures) (three .ensures))),
+          (then-wrote (one .ensures) (then-wrote (two .ensures) (three .ensures))),
       omega (
         arith,
         one .ensures .next-is,

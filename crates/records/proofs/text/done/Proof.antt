@@ -7,11 +7,6 @@ use Rattle.records.proofs.Decimals.{decimal-long}
 use borrow.Author.Needs.{needs}
 use Rattle.records.proofs.text.done.Statement.{statement}
 use Rattle.records.proofs.text.done.Tie as tie
-use Rattle.records.proofs.text.done.Reads as reads
-use Rattle.records.proofs.text.done.Lts as lts
-use Rattle.records.proofs.text.byte.Reads as byte-reads
-use Rattle.records.proofs.text.spaced.Reads as spaced-reads
-use Rattle.records.proofs.text.word.Reads as word-reads
 
 slice-aggregate-word : tie.Need-slice-aggregate-word
 slice-aggregate-word c = search needs

@@ -7,11 +7,6 @@ use Rattle.records.proofs.Decimals.{decimal-long}
 use borrow.Author.Needs.{needs}
 use Rattle.records.proofs.text.head.Statement.{statement}
 use Rattle.records.proofs.text.head.Tie as tie
-use Rattle.records.proofs.text.head.Reads as reads
-use Rattle.records.proofs.text.head.Lts as lts
-use Rattle.records.proofs.text.byte.Reads as byte-reads
-use Rattle.records.proofs.text.spaced.Reads as spaced-reads
-use Rattle.records.proofs.text.word.Reads as word-reads
 
 slice-aggregate-word : tie.Need-slice-aggregate-word
 slice-aggregate-word c = search needs
@@ -77,8 +72,7 @@ returns c =
     let one = c .before .before .before .before .before .before .before .before .before .before .before .before .before .before .word in
     let two = c .before .before .before .before .before .before .before .before .before .before .spaced in
     let three = c .before .before .before .before .before .before .spaced2 in
-    let four = c .before .before .byte in
-    (
+    let four = c .before .before .byte in (
       then-wrote (then-wrote (then-wrote (one .ensures) (two .ensures)) (three .ensures)) (four .ensures),
       omega (
         arith,

@@ -7,11 +7,6 @@ use Rattle.records.proofs.Decimals.{decimal-long}
 use borrow.Author.Needs.{needs}
 use Rattle.records.proofs.text.line.Statement.{statement}
 use Rattle.records.proofs.text.line.Tie as tie
-use Rattle.records.proofs.text.line.Reads as reads
-use Rattle.records.proofs.text.line.Lts as lts
-use Rattle.records.proofs.text.byte.Reads as byte-reads
-use Rattle.records.proofs.text.spaced.Reads as spaced-reads
-use Rattle.records.proofs.text.word.Reads as word-reads
 
 word-requires : tie.Need-word-requires
 word-requires c κs = search needs

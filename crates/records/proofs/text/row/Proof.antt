@@ -10,10 +10,6 @@ use Rattle.records.proofs.Writing.{wrote-nothing, then-wrote}
 use Rattle.records.proofs.Pictures.{row-more}
 use Rattle.records.proofs.text.row.Statement.{statement}
 use Rattle.records.proofs.text.row.Tie as tie
-use Rattle.records.proofs.text.row.Reads as reads
-use Rattle.records.proofs.text.row.Lts as lts
-use Rattle.records.proofs.text.gap.Reads as gap-reads
-use Rattle.records.proofs.text.cell.Reads as cell-reads
 
 abbrev Inv-loop : tie.InvT-loop
 Inv-loop out₀ at values mattes from w next₀ j₀ out next j =
@@ -56,7 +52,7 @@ loop-again c =
       two .kept .0 ∙ one .kept .0 ∙ at .loop .inv .1,
       omega (arith, one .ensures .1, two .ensures .1, at .loop .inv .2),
       rw (row-more (start .args .values .now) (start .args .mattes .now) (start .args .from) (at .loop .j))
-      (then-wrote (at .loop .inv .3) (then-wrote (one .ensures .0) (two .ensures .0))),
+          (then-wrote (at .loop .inv .3) (then-wrote (one .ensures .0) (two .ensures .0))),
     )
 
 same-length : tie.Need-same-length Inv-loop μ-loop

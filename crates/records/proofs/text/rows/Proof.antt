@@ -11,10 +11,6 @@ use Rattle.records.proofs.Writing.{wrote-nothing, then-wrote}
 use Rattle.records.proofs.Pictures.{rows-more}
 use Rattle.records.proofs.text.rows.Statement.{statement}
 use Rattle.records.proofs.text.rows.Tie as tie
-use Rattle.records.proofs.text.rows.Reads as reads
-use Rattle.records.proofs.text.rows.Lts as lts
-use Rattle.records.proofs.text.byte.Reads as byte-reads
-use Rattle.records.proofs.text.row.Reads as row-reads
 
 abbrev Inv-loop : tie.InvT-loop
 Inv-loop out₀ at values mattes w h next₀ from₀ y₀ out next from y =
@@ -74,7 +70,7 @@ loop-again c =
         rows-more (start .args .values .now) (start .args .mattes .now) (start .args .w) (at .loop .y),
         ← at .loop .inv .1,
       )
-      (then-wrote (then-wrote (at .loop .inv .4) (one .ensures .0)) (two .ensures)),
+          (then-wrote (then-wrote (at .loop .inv .4) (one .ensures .0)) (two .ensures)),
     )
 
 same-length : tie.Need-same-length Inv-loop μ-loop

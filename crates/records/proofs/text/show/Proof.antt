@@ -4,10 +4,6 @@ use Rattle.records.proofs.Writing.{then-wrote}
 use borrow.Author.Needs.{needs}
 use Rattle.records.proofs.text.show.Statement.{statement}
 use Rattle.records.proofs.text.show.Tie as tie
-use Rattle.records.proofs.text.show.Reads as reads
-use Rattle.records.proofs.text.show.Lts as lts
-use Rattle.records.proofs.text.head.Reads as head-reads
-use Rattle.records.proofs.text.rows.Reads as rows-reads
 
 head-requires : tie.Need-head-requires
 head-requires c κs = search needs

@@ -3,10 +3,6 @@ use Rattle.records.proofs.Writing.{then-wrote}
 use borrow.Author.Needs.{needs}
 use Rattle.records.proofs.text.spaced.Statement.{statement}
 use Rattle.records.proofs.text.spaced.Tie as tie
-use Rattle.records.proofs.text.spaced.Reads as reads
-use Rattle.records.proofs.text.spaced.Lts as lts
-use Rattle.records.proofs.text.byte.Reads as byte-reads
-use Rattle.records.proofs.text.number.Reads as number-reads
 
 byte-requires : tie.Need-byte-requires
 byte-requires c κs = search needs

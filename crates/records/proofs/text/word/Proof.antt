@@ -9,9 +9,6 @@ use Rattle.records.specs.Written.{Wrote}
 use Rattle.records.proofs.Writing.{wrote-nothing, word-more}
 use Rattle.records.proofs.text.word.Statement.{statement}
 use Rattle.records.proofs.text.word.Tie as tie
-use Rattle.records.proofs.text.word.Reads as reads
-use Rattle.records.proofs.text.word.Lts as lts
-use Rattle.records.proofs.text.byte.Reads as byte-reads
 
 abbrev Inv-loop : tie.InvT-loop
 Inv-loop out₀ at w next₀ i₀ i-end out next i =
