@@ -112,6 +112,7 @@ fn begun(m: Machine, byte: u8) -> Taken
             next: Next::Lose,
         };
     }
+    let count = m.count + 1;
     match record::body_length(byte) {
         Length::Bytes(n) => settled(Machine {
             stage: stage,
@@ -119,7 +120,7 @@ fn begun(m: Machine, byte: u8) -> Taken
             held: 0,
             whole: n,
             body: body,
-            count: m.count + 1,
+            count: count,
         }),
         Length::Unknown => Taken {
             machine: Machine {
@@ -128,7 +129,7 @@ fn begun(m: Machine, byte: u8) -> Taken
                 held: m.held,
                 whole: m.whole,
                 body: body,
-                count: m.count + 1,
+                count: count,
             },
             next: Next::Refuse,
         },

@@ -7,7 +7,6 @@ use crate::record::stop_number;
 use crate::text;
 use plate::Answer;
 use plate::Outcome;
-use plate::Refusal;
 use plate::State;
 ghost use mathlib.Core.Path.{_≡_};
 ghost use mathlib.Core.List.{List};
@@ -15,7 +14,7 @@ ghost use Prim.Native.Nat.{ℕ, _+_, _*_, _<_, _≤_};
 ghost use lib.ListN.{length};
 ghost use Rattle.kernels.specs.Shape.{numberOf};
 ghost use Rattle.plate.specs.Layout.{Size};
-ghost use Rattle.plate.specs.Refusal.{refusalNumber, outcomeNumber, sizeOf, ask, views};
+ghost use Rattle.plate.specs.Refusal.{outcomeNumber, sizeOf, ask, views};
 ghost use Rattle.plate.specs.Calls.{showCall};
 ghost use Rattle.records.specs.Run.{answerText, stopText};
 ghost use Rattle.records.specs.Written.{Wrote};
@@ -66,34 +65,11 @@ fn room(width: usize, height: usize, reach: usize) -> Lends
     }
 }
 
-// The number of a refusal in the paper's table.
-fn refusal_number(why: Refusal) -> u64
-    ensures { λ r. ⌜ r ≡ refusalNumber why ⌝ }
-{
-    match why {
-        Refusal::Sizes => 1,
-        Refusal::Lengths => 2,
-        Refusal::LogCount => 3,
-        Refusal::Place => 4,
-        Refusal::Value => 5,
-        Refusal::Shape => 6,
-        Refusal::Radius => 7,
-        Refusal::LogFull => 8,
-        Refusal::LogEmpty => 9,
-        Refusal::StoredWord => 10,
-        Refusal::Lens => 11,
-        Refusal::Depth => 12,
-    }
-}
-
-// The number of an outcome: 0 where the call is accepted.
+// The paper's number of an outcome, as wide as a line takes it.
 fn outcome_number(outcome: Outcome) -> u64
     ensures { λ r. ⌜ r ≡ outcomeNumber outcome ⌝ }
 {
-    match outcome {
-        Outcome::Accepted => 0,
-        Outcome::Refused(why) => refusal_number(why),
-    }
+    plate::state::number(outcome) as u64
 }
 
 // A run stops: its line, and the end.
@@ -108,27 +84,24 @@ pub(crate) fn stop(why: Stop, k: u64, out: &mut [u8]) -> Done
     }
 }
 
-// The line of a refusal, and nothing where a call is accepted.
-fn answer(number: u64, k: u64, out: &mut [u8]) -> usize
-    requires { ⌜ 4096 ≤ length (now out) ⌝ }
-    ensures { λ r. ⌜ Wrote (now (out .entry)) 0 (answerText k number) (now (out .exit)) r ⌝ }
-{
-    if number == 0 {
-        return 0;
-    }
-    text::line(out, b"refused", number, k)
-}
-
-// A put or an undo goes on, accepted or not.
+// The run goes on, whether its call was accepted, without a word, or refused, with the line of its number.
 fn answered(a: Answer, k: u64, out: &mut [u8]) -> Done
     requires { ⌜ 4096 ≤ length (now out) ⌝ }
     ensures { λ r. ⌜ (r .stage ≡ Opened (a .state)) × Wrote (now (out .entry)) 0 (answerText k (outcomeNumber (a .outcome))) (now (out .exit)) (r .written) ⌝ }
 {
     let outcome = a.outcome;
-    let written = answer(outcome_number(outcome), k, out);
-    let state = a.state;
+    let number = outcome_number(outcome);
+    if number == 0 {
+        let state = a.state;
+        return Done {
+            stage: Stage::Opened(state),
+            written: 0,
+        };
+    }
+    let kept = a.state;
+    let written = text::line(out, b"refused", number, k);
     Done {
-        stage: Stage::Opened(state),
+        stage: Stage::Opened(kept),
         written: written,
     }
 }
@@ -281,20 +254,15 @@ fn shown(
     ensures { λ r. ⌜ (r .stage ≡ Opened (a .state)) × Wrote (now (out .entry)) 0 (shownText k width height (a .outcome) (now (values .entry)) (now (mattes .entry))) (now (out .exit)) (r .written) ⌝ }
 {
     let outcome = a.outcome;
-    let state = a.state;
-    let number = outcome_number(outcome);
-    if number == 0 {
+    if outcome_number(outcome) == 0 {
+        let state = a.state;
         let written = text::show(out, values, mattes, width, height);
         return Done {
             stage: Stage::Opened(state),
             written: written,
         };
     }
-    let written = answer(number, k, out);
-    Done {
-        stage: Stage::Opened(state),
-        written: written,
-    }
+    answered(a, k, out)
 }
 
 // A show on just the parts that a plate wants.

@@ -6,6 +6,7 @@
 
 mod clock;
 mod plate;
+mod records;
 mod table;
 
 use plate::{Bench, Engine, engines};
@@ -29,6 +30,7 @@ fn main() {
     main_table(&engines);
     radius_table(&engines);
     size_table(&engines);
+    record_line();
 }
 
 /// Fill, show and put + undo on the main size, with radii by a ramp of depths.
@@ -154,4 +156,19 @@ fn size_table(engines: &[Engine]) {
         }
     }
     table.print();
+}
+
+/// The record program, by the wall clock.
+fn record_line() {
+    println!("## The record program\n");
+    let Some(streamed) = records::run() else {
+        println!("There is no target/bin/lens_records; `rt check lens_records` builds it.");
+        return;
+    };
+    let megabytes = streamed.bytes as f64 / 1e6;
+    println!(
+        "{megabytes:.1} MB of puts and undos on a plate of 5 × 4 pixels in {}: {:.1} MB/s.",
+        milliseconds(streamed.time),
+        megabytes / streamed.time.as_secs_f64()
+    );
 }

@@ -5,6 +5,7 @@
 //! it must not be.
 
 use std::env;
+use std::fs;
 use std::io::Write;
 use std::path::{Path, PathBuf};
 use std::process::{Command, Stdio};
@@ -148,4 +149,36 @@ fn texts_agree() {
         stopped += usize::from(expected.contains("stopped"));
     }
     say(&format!("records: {count} byte strings, {stopped} stopped, {lines} lines compared"));
+}
+
+/// The cases that the program `records_cases` runs, each with its name.
+///
+/// A line that starts with # names a case; below it stand the bytes of its input, two
+/// hexadecimal digits each.
+fn cases() -> Vec<(String, Vec<u8>)> {
+    let file = repository().join("crates/records_cases/stdin");
+    let listed = fs::read_to_string(file).expect("the cases can be read");
+    let mut cases: Vec<(String, Vec<u8>)> = Vec::new();
+    for line in listed.lines() {
+        if line.starts_with('#') {
+            cases.push((line.to_string(), Vec::new()));
+            continue;
+        }
+        let (_, input) = cases.last_mut().expect("a case starts with its name");
+        let digits: String = line.split(' ').collect();
+        let bytes = (0..digits.len()).step_by(2).map(|at| &digits[at..at + 2]);
+        input.extend(bytes.map(|byte| u8::from_str_radix(byte, 16).expect("two digits")));
+    }
+    cases
+}
+
+/// What the gate holds `records_cases` to is the reference's text, not the engine's.
+#[test]
+fn cases_agree() {
+    let cases = cases();
+    let told: String =
+        cases.iter().map(|(name, input)| format!("{name}\n{}", text(input))).collect();
+    let file = repository().join("crates/records_cases/stdout");
+    assert_eq!(told, fs::read_to_string(file).expect("the texts can be read"));
+    say(&format!("records: the texts of {} cases are the reference's", cases.len()));
 }

@@ -11,14 +11,14 @@ returns : tie.Need-returns
 unfolding begunOf
 returns c = let m = c .before .before .before .args .m in rw (le-ltb (m .count) (2 ^ 64 - 1) (omega arith))
 
+add-count : tie.Need-add-count
+add-count c = search needs
+
 body-length-requires : tie.Need-body-length-requires
 body-length-requires c κs = search needs
 
 enum-known-n : tie.Need-enum-known-n
 enum-known-n c = search needs
-
-add-t10 : tie.Need-add-t10
-add-t10 c = search needs
 
 settled-requires : tie.Need-settled-requires
 settled-requires c κs = search needs
@@ -26,31 +26,27 @@ settled-requires c κs = search needs
 enum-told : tie.Need-enum-told
 enum-told c = search needs
 
-add-t12 : tie.Need-add-t12
-add-t12 c = search needs
-
 returns-2 : tie.Need-returns-2
 unfolding begunOf begunBy
 returns-2 c =
     let m = c .before .before .before .before .before .before .before .before .before .args .m in
-    rw (lt-ltb (m .count) (2 ^ 64 - 1) (omega arith), ← c .before .before .before .before .before .body-length .ensures, c .before .before .before .n .given .1) (c .settled .ensures)
+    rw (lt-ltb (m .count) (2 ^ 64 - 1) (omega arith), ← c .before .before .before .before .body-length .ensures, c .before .before .n .given .1) (c .settled .ensures)
 
 returns-3 : tie.Need-returns-3
 unfolding begunOf begunBy
 returns-3 c =
     let m = c .before .before .before .before .before .before .before .args .m in
-    rw (lt-ltb (m .count) (2 ^ 64 - 1) (omega arith), ← c .before .before .before .body-length .ensures, c .before .enum-told .given .1)
+    rw (lt-ltb (m .count) (2 ^ 64 - 1) (omega arith), ← c .before .before .body-length .ensures, c .enum-told .given .1)
 
 pub begun-spec : {M : Type 1} → statement M
 begun-spec =
     tie.close
     (tie.spec
     returns
+    add-count
     body-length-requires
     enum-known-n
-    add-t10
     settled-requires
     enum-told
-    add-t12
     returns-2
     returns-3)

@@ -1,4 +1,4 @@
--- By the number of the outcome: the pictures for 0, and the line of a refusal for another.
+-- By the number of the outcome: the pictures for 0, and else what any call is answered by.
 use mathlib.Core.Path.{refl}
 use native.Mathlib.Omega.{arith}
 use Rattle.records.proofs.Performing.{shown-yes, shown-no}
@@ -12,7 +12,7 @@ outcome-number-requires c κs = search needs
 show-requires : tie.Need-show-requires
 show-requires c κs =
     let start = c .before .before .before .before .before .before .before in
-    let told = c .before .before .outcome-number .ensures in
+    let told = c .before .before .before .outcome-number .ensures in
     let room = start .pre .1 (omega arith) in
     (omega (arith, start .pre .0), room .1, room .2)
 
@@ -22,26 +22,20 @@ same-length c = search needs
 returns : tie.Need-returns
 returns c =
     let a = c .before .before .before .before .before .before .before .before .before .before .args in
-    let told = c .before .before .before .before .before .outcome-number .ensures in
+    let told = c .before .before .before .before .before .before .outcome-number .ensures in
     (refl, rw (shown-yes (a .k) (a .width) (a .height) (a .a .outcome) (a .values .now) (a .mattes .now) (omega arith)) (c .before .before .show .ensures))
 
-answer-requires : tie.Need-answer-requires
-answer-requires c κs = search needs
+answered-requires : tie.Need-answered-requires
+answered-requires c κs = search needs
 
 same-length-2 : tie.Need-same-length-2
 same-length-2 c = search needs
 
 returns-2 : tie.Need-returns-2
 returns-2 c =
-    let a = c .before .before .before .before .before .before .before .before .before .before .args in
-    let told = c .before .before .before .before .before .outcome-number .ensures in (
-      refl,
-      rw (
-        shown-no (a .k) (a .width) (a .height) (a .a .outcome) (a .values .now) (a .mattes .now) (omega arith),
-        ← told,
-      )
-          (c .before .before .answer .ensures),
-    )
+    let a = c .before .before .before .before .before .before .before .before .before .args in
+    let told = c .before .before .before .before .before .outcome-number .ensures in
+    rw (shown-no (a .k) (a .width) (a .height) (a .a .outcome) (a .values .now) (a .mattes .now) (omega arith)) (c .before .before .answered .ensures)
 
 pub shown-spec : {M : Type 1} → statement M
 shown-spec =
@@ -51,6 +45,6 @@ shown-spec =
     show-requires
     same-length
     returns
-    answer-requires
+    answered-requires
     same-length-2
     returns-2)

@@ -1,4 +1,4 @@
--- One piece after another; the value has at most 5 digits and the matte 3.
+-- One piece after another; the value has at most 5 digits and the matte 3, and either fits wherever one of them is written.
 use mathlib.Core.Path.{_∙_}
 use native.Mathlib.Omega.{arith}
 use Rattle.records.specs.Text.{cellText}
@@ -27,16 +27,19 @@ number-requires : tie.Need-number-requires
 number-requires c κs =
     let start = c .before .before .before .before .before .before .before .before in
     let v = c .before .before .before .wide16 in
+    let m = c .before .wide8 in
     omega (
       arith,
       start .pre .0,
       decimal-short 4 (v .result) (omega (arith, v .ensures .1)),
+      decimal-short 2 (m .result) (omega (arith, m .ensures .1)),
     )
 
 byte-requires : tie.Need-byte-requires
 byte-requires c κs =
     let start = c .before .before .before .before .before .before .before .before .before .before .before .before in
     let v = c .before .before .before .before .before .before .before .wide16 in
+    let m = c .before .before .before .before .before .wide8 in
     let one = c .before .before .before .number in
     omega (
       arith,
@@ -44,6 +47,7 @@ byte-requires c κs =
       one .ensures .next-is,
       start .pre .0,
       decimal-short 4 (v .result) (omega (arith, v .ensures .1)),
+      decimal-short 2 (m .result) (omega (arith, m .ensures .1)),
     )
 
 number-requires-2 : tie.Need-number-requires-2

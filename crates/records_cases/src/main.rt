@@ -1,0 +1,199 @@
+// Cases of the record program, read as text: a line that starts with # names a case, and two hexadecimal digits side by side are a
+// byte of its input; whatever else stands below the name is passed over. It prints each name, and then the text of the case's run.
+use libc::STDIN_FILENO;
+use libc::STDOUT_FILENO;
+use records::machine::Machine;
+ghost use Prim.Native.Nat.{_≤_, _<_};
+ghost use lib.ListN.{length};
+
+// A run on its way: the machine, and the first digit of a byte, 16 where none has been read.
+struct Run {
+    machine: Machine,
+    half: u8,
+}
+
+// The value of a hexadecimal digit, and 16 where there is none.
+fn digit(b: u8) -> u8 {
+    if b < b'0' {
+        return 16;
+    }
+    if b <= b'9' {
+        return b - b'0';
+    }
+    if b < b'A' {
+        return 16;
+    }
+    if b <= b'F' {
+        return b - b'A' + 10;
+    }
+    16
+}
+
+// A byte of a case's input, and the text that it brings.
+fn feed(
+    machine: Machine,
+    byte: u8,
+    planes: &mut [u64; 7168],
+    pixels: &mut [u64; 512],
+    log: &mut [u64; 64],
+    scratch: &mut [u64; 1536],
+    values: &mut [u16; 512],
+    mattes: &mut [u8; 512],
+    text: &mut [u8],
+) -> Machine {
+    let fed = records::machine::feed(
+        machine,
+        byte,
+        planes,
+        pixels,
+        log,
+        scratch,
+        values,
+        mattes,
+        text,
+    );
+    let n = fed.written;
+    io::write_all(STDOUT_FILENO, &text[..n]);
+    fed.machine
+}
+
+// One character of a case.
+fn step(
+    run: Run,
+    b: u8,
+    planes: &mut [u64; 7168],
+    pixels: &mut [u64; 512],
+    log: &mut [u64; 64],
+    scratch: &mut [u64; 1536],
+    values: &mut [u16; 512],
+    mattes: &mut [u8; 512],
+    text: &mut [u8],
+) -> Run {
+    let machine = run.machine;
+    let d = digit(b);
+    if d == 16 {
+        return Run {
+            machine: machine,
+            half: 16,
+        };
+    }
+    if run.half == 16 {
+        return Run {
+            machine: machine,
+            half: d,
+        };
+    }
+    let next = feed(
+        machine,
+        (run.half << 4) | d,
+        planes,
+        pixels,
+        log,
+        scratch,
+        values,
+        mattes,
+        text,
+    );
+    Run {
+        machine: next,
+        half: 16,
+    }
+}
+
+// The characters of a case, on buffers of its own.
+fn characters(
+    case: &[u8],
+    planes: &mut [u64; 7168],
+    pixels: &mut [u64; 512],
+    log: &mut [u64; 64],
+    scratch: &mut [u64; 1536],
+    values: &mut [u16; 512],
+    mattes: &mut [u8; 512],
+    text: &mut [u8],
+) -> Machine {
+    let machine = records::machine::start();
+    let mut run = Run {
+        machine: machine,
+        half: 16,
+    };
+    for i in 0..case.len() {
+        run = step(
+            run,
+            case[i],
+            planes,
+            pixels,
+            log,
+            scratch,
+            values,
+            mattes,
+            text,
+        );
+    }
+    run.machine
+}
+
+// A case from its first character to the end of its input.
+fn run_case(case: &[u8]) {
+    let mut planes = [0u64; 7168];
+    let mut pixels = [0u64; 512];
+    let mut log = [0u64; 64];
+    let mut scratch = [0u64; 1536];
+    let mut values = [0u16; 512];
+    let mut mattes = [0u8; 512];
+    let mut text = io::buffer();
+    let machine = characters(
+        case,
+        &mut planes,
+        &mut pixels,
+        &mut log,
+        &mut scratch,
+        &mut values,
+        &mut mattes,
+        &mut text,
+    );
+    let n = records::machine::finish(machine, &mut text);
+    io::write_all(STDOUT_FILENO, &text[..n]);
+}
+
+// The place after the next occurrence of a byte, or the end.
+fn after(input: &[u8], at: usize, byte: u8) -> usize
+    requires { ⌜ at < length (now input) ⌝ }
+    ensures { λ r. ⌜ (at < r) × (r ≤ length (now (input .entry))) ⌝ }
+{
+    for i in at..input.len() {
+        if input[i] == byte {
+            return i + 1;
+        }
+    }
+    input.len()
+}
+
+// One case: its name, up to the end of the line, and its run.
+fn named(case: &[u8])
+    requires { ⌜ 0 < length (now case) ⌝ }
+{
+    let start = after(case, 0, b'\n');
+    io::write_all(STDOUT_FILENO, b"#");
+    io::write_all(STDOUT_FILENO, &case[..start]);
+    run_case(&case[start..]);
+}
+
+// Each case goes from a # to the next one.
+fn cases(input: &[u8]) {
+    if input.len() == 0 {
+        return;
+    }
+    let mut at = after(input, 0, b'#');
+    while at < input.len() {
+        let next = after(input, at, b'#');
+        named(&input[at..next]);
+        at = next;
+    }
+}
+
+// The text is at most 65,536 bytes long.
+fn main() {
+    let mut input = io::large_buffer();
+    let n = io::read_full(STDIN_FILENO, &mut input);
+    cases(&input[..n]);
+}
