@@ -78,8 +78,8 @@ pub struct Plate {
 }
 
 impl Plate {
-    /// A plate of empty pixels whose kernels reach `reach` pixels, and whose last
-    /// `log_len` puts can be undone.
+    /// A plate of empty pixels whose kernels reach `reach` pixels, with an undo log of
+    /// `log_len` puts; a put on a full log is refused.
     ///
     /// # Errors
     /// [`Refusal::Sizes`] if width or height is not 1 to 4,096, their product above
