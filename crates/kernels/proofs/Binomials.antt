@@ -1,17 +1,17 @@
 -- The marks of n boxes, one by one: along an axis (-1)^i times n over i, and their products over both axes.
-use mathlib.Core.Path.{_≡_, refl, ap, sym, _∙_, fun-ext}
-use mathlib.Core.List.{List, [], _∷_, _++_}
-use Prim.Native.Nat.{ℕ, zero, suc, _+_, _*_, _-_, _^_, _%_, _≤_, _<_}
+use mathlib.Core.Path.{_≡_, refl, ap, sym, _∙_}
+use mathlib.Core.List.{[], _∷_}
+use Prim.Native.Nat.{ℕ, zero, suc, _+_, _*_, _-_, _^_, _%_, _<_}
 use native.Mathlib.Omega.{arith}
 use native.Mathlib.Nat.{add-mul-mod-self-left}
-use Rattle.kernels.specs.Choice.{within, same}
-use Rattle.kernels.specs.Sum.{sum, Row, Plane, Planes, finish}
+use Rattle.kernels.specs.Choice.{same}
+use Rattle.kernels.specs.Sum.{sum, Row, finish}
 use Rattle.kernels.specs.Tap.{shift, boxes, one}
 use Rattle.kernels.specs.Mark.{Mark, mark, minus, sign, choose, marksTo, boxGrid, planesOf}
-use Rattle.kernels.proofs.Choices.{by-lt, by-eq, if-within, within-yes, within-no, same-yes, same-no, same-as, same-mul, same-zero}
+use Rattle.kernels.proofs.Choices.{by-eq, if-within, same-yes, same-no, same-as, same-mul}
 use Rattle.kernels.proofs.Sums.{sum-ext, sum-add, sum-mul, sum-zero, sum-front, sum-product, _≈_, cong-mul, sum-cong}
-use Rattle.kernels.proofs.Boxes.{scale, mix, rowMarks, runnings, shift-same, box-fact, boxes-mark}
-use Rattle.kernels.proofs.Planes.{_≈²_, only, product, both, both-product, product-cong, finish-cong, Boxed, finish-boxes}
+use Rattle.kernels.proofs.Boxes.{scale, mix, rowMarks, box-fact, boxes-mark}
+use Rattle.kernels.proofs.Planes.{_≈²_, only, product, both-product, product-cong, finish-cong, Boxed, finish-boxes}
 use Rattle.kernels.proofs.Lines.{planes-to}
 
 -- c to the i-th

@@ -1,7 +1,7 @@
 -- Sums along one axis: THE BOX FACT, for every n. A running sum is a box and the running sum a box further back, so the
 -- difference of a row and the row a box further on is summed to a box.
 use mathlib.Core.Path.{_≡_, refl, ap, sym, _∙_, fun-ext}
-use Prim.Native.Nat.{ℕ, zero, suc, _+_, _*_, _-_, _^_, _%_, _≤_, _<_}
+use Prim.Native.Nat.{ℕ, zero, suc, _+_, _*_, _-_, _^_}
 use native.Mathlib.Omega.{arith}
 use Rattle.kernels.specs.Choice.{within, same}
 use Rattle.kernels.specs.Sum.{sum, Row, running}
@@ -64,13 +64,6 @@ shift-twice s t f x =
 
 shift-swap : (s t : ℕ) (f : Row) (x : ℕ) → shift s (shift t f) x ≡ shift t (shift s f) x
 shift-swap s t f x = shift-twice s t f x ∙ ap (λ (n : ℕ). shift n f x) (omega arith) ∙ sym (shift-twice t s f x)
-
-pub shift-same : (l a w x : ℕ) → shift l (λ x. same x a w) x ≡ same x (a + l) w
-unfolding shift
-shift-same l a w x =
-    if-within _ _ _ _
-    (λ h. same-as _ _ _ _ w (omega arith) (omega arith))
-    (λ h. sym (same-no x (a + l) w (omega arith)))
 
 shift-cong : (s : ℕ) (f g : Row) → f ≈ g → shift s f ≈ shift s g
 unfolding shift

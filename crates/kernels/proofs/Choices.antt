@@ -42,12 +42,6 @@ within-as a b c d w p q =
     no : (a b : ℕ) → b < a → a ≤ b → ⊥
     no a b n e = omega arith
 
-pub within-mul : (a b c w : ℕ) → within a b (c * w) ≡ c * within a b w
-within-mul a b c w =
-    by-lt b a
-    (λ h. rw (within-no a b (c * w), within-no a b w) (omega arith))
-    (λ h. rw (within-yes a b (c * w), within-yes a b w))
-
 pub if-same : (a b w z : ℕ) → (a ≡ b → w ≡ z) → ((a ≡ b → ⊥) → 0 ≡ z) → same a b w ≡ z
 unfolding same
 if-same a b w z p q = pick-if (eqb a b) w 0 z (λ e. p (eqb-true a b e)) (λ e. q (eqb-false a b e))
@@ -61,9 +55,6 @@ same-no a b w n = if-same a b w 0 (omega arith) (omega arith)
 pub same-as : (a b c d w : ℕ) → (a ≡ b → c ≡ d) → (c ≡ d → a ≡ b) → same a b w ≡ same c d w
 same-as a b c d w p q =
     if-same a b w (same c d w) (λ e. sym (same-yes c d w (p e))) (λ n. sym (same-no c d w (λ e. n (q e))))
-
-pub same-zero : (a b : ℕ) → same a b 0 ≡ 0
-same-zero a b = if-same a b 0 0 (λ e. refl) (λ n. refl)
 
 pub same-add : (a b v w : ℕ) → same a b (v + w) ≡ same a b v + same a b w
 same-add a b v w =

@@ -1,16 +1,16 @@
 -- The marks of a kernel move with its centre, lie within R + 3 of it, and are as many as the table says.
-use mathlib.Core.Path.{_≡_, refl, ap, sym, _∙_}
+use mathlib.Core.Path.{_≡_, refl, ap, _∙_}
 use mathlib.Core.List.{List, [], _∷_, _++_}
-use Prim.Native.Nat.{ℕ, zero, suc, _+_, _*_, _-_, _/_, _^_, _%_, _≤_, _<_}
+use Prim.Native.Nat.{ℕ, zero, suc, _+_, _*_, _-_, _≤_, _<_}
 use native.Mathlib.Omega.{arith}
 use native.Mathlib.Nat.{mul-le-mul-right}
 use lib.ListN.{length}
 use Rattle.kernels.specs.Shape.{Shape, Box, Tent, Triple, Diamond, Hexagon, Octagon, reachOf, countOf}
 use Rattle.kernels.specs.Tap.{half, share}
-use Rattle.kernels.specs.Mark.{Mark, mark, minus, sign, choose, Run, run, line, flipped, lines, marksTo, boxGrid, boxMarks, diamondMarks, hexagonMarks, octagonMarks, tapMarks, scaled, marks}
+use Rattle.kernels.specs.Mark.{Mark, mark, minus, sign, choose, Run, line, flipped, lines, marksTo, boxGrid, boxMarks, diamondMarks, hexagonMarks, octagonMarks, tapMarks, scaled, marks}
 use Rattle.kernels.proofs.Lines.{Walk}
 use Rattle.kernels.proofs.Kernel.{two, three, Walks, diamond-walks, hexagon-walks, octagon-walks}
-use Rattle.kernels.specs.Drawing.{moved, Drawing, Grid, Two, Three, Outline, drawnMarks, twoPieces, threePieces, outlineOf}
+use Rattle.kernels.specs.Drawing.{moved, Two, Three, drawnMarks, twoPieces, threePieces, outlineOf}
 
 -- AS MANY AS THE TABLE SAYS
 pub tap-marks-count : (s : Shape) (r X Y : ℕ) → length (tapMarks s r X Y) ≡ countOf s

@@ -1,17 +1,16 @@
 -- EVERY KERNEL: its marks, finished, are its weights.
 use mathlib.Core.Path.{_≡_, refl, ap, sym, _∙_}
 use mathlib.Core.List.{List, [], _∷_}
-use Prim.Native.Nat.{ℕ, zero, suc, _+_, _*_, _-_, _/_, _^_, _%_, _≤_, _<_, min}
+use Prim.Native.Nat.{ℕ, _+_, _*_, _-_, _^_, _%_, _≤_, min}
 use native.Mathlib.Omega.{arith}
 use native.Mathlib.Nat.{mul-le-mul-left, le-of-lt}
-use Rattle.kernels.specs.Choice.{within}
 use Rattle.kernels.specs.Sum.{dist, finish}
 use Rattle.kernels.specs.Shape.{Shape, Box, Tent, Triple, Diamond, Hexagon, Octagon, reachOf}
 use Rattle.kernels.specs.Tap.{shift, boxes, one, boxTap, half, tap, octagonTap, share, weight}
 use Rattle.kernels.specs.Mark.{Run, run, flipped, boxMarks, diamondMarks, hexagonMarks, octagonMarks, tapMarks, scaled, marks, planesOf}
-use Rattle.kernels.proofs.Choices.{by-lt, if-within, within-yes, within-no}
+use Rattle.kernels.proofs.Choices.{by-lt, if-within}
 use Rattle.kernels.proofs.Sums.{cong-mul}
-use Rattle.kernels.proofs.Planes.{Sloped, up2, up1, level, down1, down2, Boxed, first, second, third}
+use Rattle.kernels.proofs.Planes.{up2, up1, level, down1, down2, Boxed, first, second, third}
 use Rattle.kernels.proofs.Binomials.{grid-fact}
 use Rattle.kernels.proofs.Lines.{columnsOf, rowAt, row-first, row-rest, Walk, finish-scaled}
 use Rattle.kernels.proofs.Areas.{box-far, taps-dist, box-tap, columnTap, diamondHeight, hexagonHeight, octagonHeight, diamond-columns, hexagon-columns, octagon-columns}

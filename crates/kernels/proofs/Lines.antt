@@ -6,12 +6,12 @@ use native.Mathlib.Omega.{arith}
 use lib.Dec.{ltb}
 use borrow.Author.Tests.{lt-ltb, le-ltb}
 use Rattle.kernels.specs.Choice.{pick, within, same}
-use Rattle.kernels.specs.Sum.{sum, Plane, Planes, running, down, add, slope, finish}
-use Rattle.kernels.specs.Mark.{Mark, mark, Run, run, line, flipped, marksTo, scaled, planesOf}
+use Rattle.kernels.specs.Sum.{sum, Plane, Planes, running, down, add, finish}
+use Rattle.kernels.specs.Mark.{Mark, mark, Run, line, marksTo, scaled, planesOf}
 use Rattle.kernels.proofs.Choices.{by-lt, if-within, within-yes, within-no, within-as, same-as, same-add, same-mul}
 use Rattle.kernels.proofs.Sums.{sum-ext, sum-zero, sum-same, cong-add}
 use Rattle.kernels.proofs.Slopes.{at-cell, piece, ends, piece-fact}
-use Rattle.kernels.proofs.Planes.{_≈²_, times, adds, only, down-cong, finish-add, finish-times, Sloped, up2, up1, level, down1, down2, finish-slope}
+use Rattle.kernels.proofs.Planes.{times, adds, only, down-cong, finish-add, finish-times, Sloped, up2, up1, level, down1, down2, finish-slope}
 
 -- LISTS OF MARKS
 pub append-at : (ms ns : List Mark) (p x y : ℕ) → planesOf (ms ++ ns) p x y ≡ planesOf ms p x y + planesOf ns p x y

@@ -1,15 +1,15 @@
 -- The kernel between two lines: the marks of both are finished to 1 in each column from the top line to the bottom line.
-use mathlib.Core.Path.{_≡_, refl, ap, sym, _∙_}
-use mathlib.Core.List.{List, [], _∷_, _++_}
-use Prim.Native.Nat.{ℕ, zero, suc, _+_, _*_, _-_, _^_, _%_, _≤_, _<_}
+use mathlib.Core.Path.{_≡_, refl, ap, _∙_}
+use mathlib.Core.List.{List, [], _∷_}
+use Prim.Native.Nat.{ℕ, _+_, _*_, _-_, _^_, _%_, _≤_}
 use native.Mathlib.Omega.{arith}
 use Rattle.kernels.specs.Choice.{within}
 use Rattle.kernels.specs.Sum.{dist, finish}
-use Rattle.kernels.specs.Mark.{Mark, Run, run, line, lines, flipped, minus, planesOf}
+use Rattle.kernels.specs.Mark.{Run, run, line, lines, flipped, minus, planesOf}
 use Rattle.kernels.proofs.Choices.{by-lt, within-yes, within-no}
 use Rattle.kernels.proofs.Sums.{cong-add}
 use Rattle.kernels.proofs.Areas.{columnTap}
-use Rattle.kernels.proofs.Lines.{stays, strip, strip-in, strip-left, strip-right, columnsOf, rowAt, row-first, row-rest, Walk, finish-append, line-fact}
+use Rattle.kernels.proofs.Lines.{stays, strip-in, strip-left, strip-right, columnsOf, rowAt, row-first, row-rest, Walk, finish-append, line-fact}
 
 -- THE TWO LINES
 pub flipped-columns : (runs : List Run) → columnsOf (flipped runs) ≡ columnsOf runs

@@ -1,11 +1,11 @@
 -- The sums of planes are linear and go through wrapping; what finishing does to marks in one plane alone.
 use mathlib.Core.Path.{_≡_, refl, ap, sym, _∙_, fun-ext}
-use Prim.Native.Nat.{ℕ, zero, suc, _+_, _*_, _-_, _^_, _%_, _≤_, _<_}
+use Prim.Native.Nat.{ℕ, zero, suc, _+_, _*_, _-_, _^_, _%_, _<_}
 use native.Mathlib.Omega.{arith}
 use Rattle.kernels.specs.Choice.{within, same}
 use Rattle.kernels.specs.Sum.{sum, Row, Plane, Planes, running, across, down, add, slope, chain, finish}
 use Rattle.kernels.proofs.Choices.{by-lt, within-yes, within-no}
-use Rattle.kernels.proofs.Sums.{sum-ext, sum-add, sum-mul, sum-swap, _≈_, cong-add, cong-mul, sum-cong}
+use Rattle.kernels.proofs.Sums.{sum-ext, sum-add, sum-mul, _≈_, cong-add, cong-mul, sum-cong}
 use Rattle.kernels.proofs.Slopes.{slope-add, slope-mul}
 use Rattle.kernels.proofs.Boxes.{runnings}
 
@@ -84,11 +84,6 @@ across-cong f g h x y = sum-cong _ _ (λ i. h i y) (suc x)
 pub down-cong : (f g : Plane) → f ≈² g → down f ≈² down g
 unfolding down running
 down-cong f g h x y = sum-cong _ _ (h x) (suc y)
-
-both-cong : (n : ℕ) (f g : Plane) → f ≈² g → both n f ≈² both n g
-unfolding both
-both-cong zero f g h = h
-both-cong (suc n) f g h = down-cong _ _ (across-cong _ _ (both-cong n f g h))
 
 slope-cong : (d u : ℕ) (f g : Plane) → f ≈² g → slope d u f ≈² slope d u g
 unfolding slope

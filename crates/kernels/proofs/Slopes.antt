@@ -5,7 +5,7 @@ use native.Mathlib.Omega.{arith}
 use native.Mathlib.Nat.{mul-le-mul-right, add-mul-mod-self-left}
 use Rattle.kernels.specs.Choice.{within, same}
 use Rattle.kernels.specs.Sum.{Plane, slope}
-use Rattle.kernels.proofs.Choices.{by-lt, by-eq, if-within, within-yes, within-no, if-same, same-yes, same-no, same-as, same-add, same-mul}
+use Rattle.kernels.proofs.Choices.{by-lt, if-within, within-yes, within-no, same-yes, same-no, same-as, same-add, same-mul}
 
 -- w at one cell
 unfoldable pub at-cell : ℕ → ℕ → ℕ → Plane

@@ -2,9 +2,9 @@
 use mathlib.Core.Path.{_≡_, refl, ap, sym, _∙_}
 use Prim.Native.Nat.{ℕ, zero, suc, _+_, _*_, _-_, _/_, _^_, _%_, _≤_, _<_}
 use native.Mathlib.Omega.{arith}
-use native.Mathlib.Nat.{mod-eq-of-lt, add-mul-mod-self-left, div-add-mod, mul-comm}
+use native.Mathlib.Nat.{add-mul-mod-self-left, div-add-mod, mul-comm}
 use Rattle.kernels.specs.Choice.{within, same}
-use Rattle.kernels.specs.Sum.{sum, Row, running, dist}
+use Rattle.kernels.specs.Sum.{sum, Row}
 use Rattle.kernels.proofs.Choices.{by-lt, by-eq, within-yes, within-no, same-yes, same-no}
 
 pub sum-ext : (f g : Row) → ((k : ℕ) → f k ≡ g k) → (n : ℕ) → sum f n ≡ sum g n
@@ -76,10 +76,6 @@ f ≈ g = (x : ℕ) → f x % 2 ^ 64 ≡ g x % 2 ^ 64
 
 pub cong-add : (a b c d : ℕ) → a % 2 ^ 64 ≡ b % 2 ^ 64 → c % 2 ^ 64 ≡ d % 2 ^ 64 → (a + c) % 2 ^ 64 ≡ (b + d) % 2 ^ 64
 cong-add a b c d p q = omega arith
-
--- a sum that is small at the end is exact, however it wrapped on the way
-pub exact : (c s : ℕ) → c % 2 ^ 64 ≡ s % 2 ^ 64 → c < 2 ^ 64 → s < 2 ^ 64 → c ≡ s
-exact c s e p q = sym (mod-eq-of-lt p) ∙ e ∙ mod-eq-of-lt q
 
 -- with the modulus a variable, since omega stops at numbers of more than 38 digits
 mod-mul : (m a b : ℕ) → a * b % m ≡ a % m * b % m

@@ -1,6 +1,6 @@
 -- The radius from depth.
 use mathlib.Core.Bool.{Bool, true, false}
-use Prim.Native.Nat.{ℕ, zero, suc, _+_, _*_, _-_, min}
+use Prim.Native.Nat.{ℕ, zero, suc, _*_, _-_, min}
 use lib.Dec.{leb, ltb}
 use Rattle.kernels.specs.Choice.{pick}
 use Rattle.kernels.specs.Sum.{dist}

@@ -1,10 +1,8 @@
 -- Taps, areas, shares and weights of the kernels.
-use mathlib.Core.List.{List, [], _∷_}
 use Prim.Native.Nat.{ℕ, zero, suc, _+_, _*_, _-_, _/_, _%_, min}
-use lib.ListN.{getD}
 use Rattle.kernels.specs.Choice.{within, same}
 use Rattle.kernels.specs.Sum.{Row, sum, dist}
-use Rattle.kernels.specs.Shape.{Shape, Box, Tent, Triple, Diamond, Hexagon, Octagon, ShapeRead, Known, Unknown, shapeOf, boxesOf, topOf, reachOf}
+use Rattle.kernels.specs.Shape.{Shape, Box, Tent, Triple, Diamond, Hexagon, Octagon, ShapeRead, Known, Unknown, shapeOf, topOf, reachOf}
 
 -- BOXES ON ONE AXIS
 -- a row moved s cells on, 0 before its start

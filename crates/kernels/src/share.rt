@@ -1,6 +1,5 @@
 // The shares: what a pixel of opacity 1 adds to a cell for each tap.
 ghost use mathlib.Core.Path.{_≡_};
-ghost use Rattle.kernels.specs.Tap.{shareUpTo};
 ghost use Rattle.kernels.specs.Share.{shareTable, tableShare};
 use crate::shape::Shape;
 use crate::shape::number;
@@ -399,7 +398,7 @@ const SHARES: [u32; 390] = [
     577,
 ];
 
-// The table, for a caller that looks up many shares: a const array is built anew at each use.
+// The table. A const array is built anew at each use, so a caller has it made once and lends it to its look-ups.
 pub fn shares() -> [u32; 390]
     ensures { λ r. ⌜ r ≡ shareTable ⌝ }
 {
@@ -416,12 +415,4 @@ pub fn share_in(table: &[u32; 390], s: Shape, radius: u8) -> u32
     } else {
         0
     }
-}
-
-// The share of one shape and radius, 0 above the shape's top.
-pub fn share(s: Shape, radius: u8) -> u32
-    ensures { λ r. ⌜ r ≡ shareUpTo s radius ⌝ }
-{
-    let table = shares();
-    share_in(&table, s, radius)
 }

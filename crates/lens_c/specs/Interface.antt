@@ -1,6 +1,4 @@
 -- The C interface: the plate's calls with C's structs for state, lens and answer.
-use mathlib.Core.List.{List}
-use Prim.Native.Nat.{ℕ}
 use Rattle.kernels.specs.declared.lens.Lens.{Lens}
 use Rattle.plate.specs.declared.state.State.{State}
 use Rattle.plate.specs.declared.state.Answer.{Answer}

@@ -1,7 +1,6 @@
 // The C interface of the plate: the same calls in the same order, a slice as pointer then length. include/lens.h declares it.
 ghost use mathlib.Core.Path.{_≡_};
-ghost use Rattle.plate.specs.Layout.{Size};
-ghost use Rattle.plate.specs.Refusal.{outcomeNumber, lent, ask, inputs, views};
+ghost use Rattle.plate.specs.Refusal.{lent, ask, inputs, views};
 ghost use Rattle.plate.specs.Calls.{openCall, putCall, undoCall, fillCall, showCall};
 ghost use Rattle.lens_c.specs.Interface.{stateIn, lensIn, answerOut, LeftOut, leftOut, ShownOut, shownOut};
 use kernels::Lens;

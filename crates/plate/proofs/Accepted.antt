@@ -1,26 +1,22 @@
 -- What a call may count on when its check accepts.
-use mathlib.Core.Path.{_≡_, refl}
+use mathlib.Core.Path.{_≡_}
 use mathlib.Core.Bool.{not}
-use Prim.Native.Nat.{ℕ, _+_, _*_, _-_, _≤_, _<_}
+use Prim.Native.Nat.{ℕ, _*_, _-_, _≤_, _<_}
 use native.Mathlib.Omega.{arith}
 use lib.Dec.{leb, ltb, eqb}
 use borrow.Author.Tests.{ltb-false, leb-false, eqb-true, eqb-false, not-false}
 use Rattle.kernels.specs.declared.shape.ShapeRead.the-variants.{Known}
 use Rattle.kernels.specs.Shape.{shapeOf, topUnder}
 use Rattle.plate.specs.Layout.{Size, padded, places}
-use Rattle.plate.specs.Refusal.{State, Refusal, Shape, Outcome, Accepted, Refused, sizeOf, Sized, Ask, sizesCheck, lengthCheck, lentCheck, countCheck, placeCheck, kernelCheck, askCheck, inputsCheck, viewsCheck, openCheck, putCheck, undoCheck, showCheck}
+use Rattle.plate.specs.Refusal.{State, Outcome, Accepted, sizeOf, Sized, Ask, sizesCheck, lengthCheck, lentCheck, countCheck, placeCheck, askCheck, inputsCheck, viewsCheck, putCheck, undoCheck, showCheck}
 use Rattle.plate.specs.Calls.{askedPlace, knownShape}
 use Rattle.plate.proofs.Checks.{Lawful, LentFor, passed, sizes-passed, lent-passed, kernel-passed}
-use Rattle.plate.proofs.Extents.{padded-small, place-within}
+use Rattle.plate.proofs.Extents.{place-within}
 
 length-passed : (n want : ℕ) (next : Outcome) → lengthCheck n want next ≡ Accepted → (n ≡ want) × (next ≡ Accepted)
 length-passed n want next e =
     let q = passed (not (eqb n want)) _ next e in
     (eqb-true n want (not-false _ (q .0)), q .1)
-
--- what a plate's cells count stays below
-pub cells-small : (z : Size) → Lawful z → 14 * padded z ≤ 250500600
-cells-small z h = omega (arith, padded-small z (h .width-top) (h .height-top) (h .reach-top))
 
 -- the plate's checks, whatever comes after them
 plate-passed : (z : Size) (n : Sized) (next : Outcome) → sizesCheck z (lentCheck z n next) ≡ Accepted
@@ -29,14 +25,6 @@ plate-passed z n next e =
     let s = sizes-passed z _ e in
     let l = lent-passed z n _ (s .1) in
     (s .0, l .0, l .1)
-
-pub record OpenAccepted (z : Size) (n : Sized) : Type 0 where
-  pub lawful : Lawful z
-  pub lent : LentFor z n
-
-pub open-accepted : (z : Size) (n : Sized) → openCheck z n ≡ Accepted → OpenAccepted z n
-unfolding openCheck
-open-accepted z n e = let p = plate-passed z n Accepted e in record { lawful = p .0; lent = p .1 }
 
 pub record PutAccepted (s : State) (a : Ask) (n : Sized) : Type 0 where
   pub lawful : Lawful (sizeOf s)

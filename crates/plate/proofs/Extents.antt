@@ -2,7 +2,7 @@
 use Prim.Native.Nat.{ℕ, _+_, _*_, _≤_, _<_}
 use native.Mathlib.Omega.{arith}
 use Rattle.kernels.proofs.Numbers.{product-le}
-use Rattle.plate.specs.Layout.{Size, wide, high, padded, places}
+use Rattle.plate.specs.Layout.{Size, wide, high, padded}
 
 pub places-small : (w h : ℕ) → w ≤ 4096 → h ≤ 4096 → w * h ≤ 16777216
 places-small w h p q = product-le w h 4096 4096 p q

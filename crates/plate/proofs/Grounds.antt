@@ -1,27 +1,27 @@
 -- A kernel's drawing, laid from its corner, is the kernel's marks laid around its pixel.
 use mathlib.Core.Path.{_≡_, refl, ap, sym, _∙_}
 use mathlib.Core.List.{List, [], _∷_}
-use Prim.Native.Nat.{ℕ, zero, suc, _+_, _*_, _-_, _/_, _%_, _^_, _≤_, _<_}
+use Prim.Native.Nat.{ℕ, zero, suc, _+_, _*_, _-_, _%_, _^_, _≤_, _<_}
 use native.Mathlib.Omega.{arith}
 use native.Mathlib.Nat.{mul-assoc, mod-mod, mod-eq-of-lt, div-eq-of-lt, mul-add-mod-self-right, mul-add-div-right, mul-le-mul-right}
-use lib.ListN.{length, getD, length-append}
+use lib.ListN.{length, length-append}
 use Rattle.kernels.specs.declared.shape.Shape.{Shape}
 use Rattle.kernels.specs.declared.mark.Drawing.{Drawing}
 use Rattle.kernels.specs.declared.mark.Drawing.the-variants.{Grid, Two, Three}
 use Rattle.kernels.specs.Shape.{reachOf, topOf, topUnder, countOf}
 use Rattle.kernels.specs.Tap.{share, shareUpTo}
-use Rattle.kernels.specs.Mark.{Mark, mark, minus, scaled, marksTo, boxGrid, tapMarks, marks}
+use Rattle.kernels.specs.Mark.{Mark, minus, scaled, marksTo, boxGrid, tapMarks, marks}
 use Rattle.kernels.specs.Drawing.{drawnMarks, moved}
 use Rattle.kernels.proofs.Numbers.{product-le}
 use Rattle.kernels.proofs.Shapes.{count-few}
 use Rattle.kernels.proofs.Choices.{within-yes, by-lt}
 use Rattle.kernels.proofs.Drawings.{Each, Near, marks-near, tap-marks-moved, tap-marks-count}
-use Rattle.plate.specs.Layout.{Size, wide, high, padded, cell, columnOf, rowOf}
+use Rattle.plate.specs.Layout.{Size, wide, high, padded, columnOf, rowOf}
 use Rattle.plate.specs.Word.{Pixel}
 use Rattle.plate.specs.Marks.{inBoth, pixelMarks, cellOf, layOne, layAll}
 use Rattle.plate.proofs.Extents.{place-within}
 use Rattle.plate.proofs.Laying.{lay-one-mod}
-use Rattle.plate.specs.Laying.{Worth, times, worthOf, Frame, frameOf, Ground, layWorth, layDrawn, Inside, FewBoxes}
+use Rattle.plate.specs.Laying.{Worth, worthOf, Frame, frameOf, Ground, layWorth, layDrawn, Inside, FewBoxes}
 use Rattle.plate.proofs.Laid.{times-number}
 
 -- WHERE A PIXEL LIES

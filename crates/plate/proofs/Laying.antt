@@ -1,6 +1,6 @@
 -- Marks laid on cells: the cells stay as many, and each holds what it held and all that is laid on it, wrapped.
 use mathlib.Core.Path.{_≡_, refl, ap, sym, _∙_}
-use mathlib.Core.List.{List, [], _∷_, _++_}
+use mathlib.Core.List.{List, [], _∷_}
 use Prim.Native.Nat.{ℕ, zero, suc, _+_, _*_, _-_, _%_, _^_, _<_}
 use native.Mathlib.Omega.{arith}
 use native.Mathlib.Nat.{mod-lt, mod-add-mod, add-assoc, add-mul-mod-self-left}
@@ -56,31 +56,7 @@ lay-cell z cells (m ∷ ms) k h f =
     lay-cell z c ms k (omega (arith, length-lay-one cells (cellOf z m) (m .coefficient))) (rw one (wrapped-low _))
     ∙ rw one (mod-add-mod _ _ _ ∙ ap (λ n. n % 2 ^ 64) (add-assoc _ _ _))
 
-pub lay-append : (z : Size) (cells : List ℕ) (ms ns : List Mark) → layAll z cells (ms ++ ns) ≡ layAll z (layAll z cells ms) ns
-unfolding layAll
-lay-append z cells [] ns = refl
-lay-append z cells (m ∷ ms) ns = lay-append z (layOne cells (cellOf z m) (m .coefficient)) ms ns
-
--- marks that differ only in what 2^64 wraps away
-pub data Alike (z : Size) : List Mark → List Mark → Type 0 where
-  none : Alike z [] []
-  more : {m n : Mark} {ms ns : List Mark} → cellOf z m ≡ cellOf z n → m .coefficient % 2 ^ 64 ≡ n .coefficient % 2 ^ 64
-      → Alike z ms ns → Alike z (m ∷ ms) (n ∷ ns)
-
--- leave the same
-pub lay-mod : (z : Size) (cells : List ℕ) {ms ns : List Mark} → Alike z ms ns → layAll z cells ms ≡ layAll z cells ns
-unfolding layAll
-lay-mod z cells none = refl
-lay-mod z cells (more {m} {n} {ms} {ns} p c rest) =
-    rw (p, lay-one-mod cells (cellOf z n) (m .coefficient) (n .coefficient) c)
-    (lay-mod z (layOne cells (cellOf z n) (n .coefficient)) rest)
-
 -- WHAT MARKS LAY ON A CELL
-pub total-append : (z : Size) (k : ℕ) (ms ns : List Mark) → total z k (ms ++ ns) ≡ total z k ms + total z k ns
-unfolding total
-total-append z k [] ns = omega arith
-total-append z k (m ∷ ms) ns = rw (total-append z k ms ns) (sym (add-assoc _ _ _))
-
 pub total-scaled : (z : Size) (k c : ℕ) (ms : List Mark) → total z k (scaled c ms) ≡ c * total z k ms
 unfolding total scaled
 total-scaled z k c [] = omega arith

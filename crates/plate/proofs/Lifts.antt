@@ -1,13 +1,13 @@
 -- The lines that go up take their marks, row by row from the bottom; then the picture's sums are ready for the first row.
-use mathlib.Core.Path.{_≡_, refl, sym, ap, _∙_}
+use mathlib.Core.Path.{_≡_, refl, _∙_}
 use mathlib.Core.List.{List}
-use Prim.Native.Nat.{ℕ, zero, suc, _+_, _*_, _-_, _/_, _%_, _^_, _<_, _≤_}
+use Prim.Native.Nat.{ℕ, _+_, _*_, _-_, _<_, _≤_}
 use native.Mathlib.Omega.{arith}
 use lib.ListN.{length, getD}
 use borrow.Author.Count.{below-none, below-more}
-use Rattle.kernels.specs.Sum.{sum, Plane, Planes}
-use Rattle.plate.specs.Passes.{planesAt, lane, downAt, downsAt, upAt, upsAt, totalAt, room, rowsAt, Swept, RowLifted, fallRow, liftsAt, liftsOf, Risen, Picture, Kept}
-use Rattle.plate.proofs.Regions.{Out, placed, Placed, fromDown, fromDowns, fromUp, fromUps, up-step, ups-step, up-later, ups-later, ups-earlier, ups-other}
+use Rattle.kernels.specs.Sum.{sum}
+use Rattle.plate.specs.Passes.{planesAt, downAt, downsAt, upAt, upsAt, totalAt, room, rowsAt, RowLifted, fallRow, liftsAt, liftsOf, Risen, Picture, Kept}
+use Rattle.plate.proofs.Regions.{Out, placed, Placed, fromUp, fromUps, up-step, ups-step, up-later, ups-later, ups-earlier, ups-other}
 use Rattle.plate.proofs.Tracks.{fall-start, lift-start, lift-next}
 use Rattle.plate.proofs.Pictures.{plane-in, plane-below}
 

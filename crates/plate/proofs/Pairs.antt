@@ -1,12 +1,12 @@
 -- Both pictures side by side: what sums the one leaves the other.
-use mathlib.Core.Path.{_≡_, refl, sym, ap, _∙_}
+use mathlib.Core.Path.{_≡_, _∙_}
 use mathlib.Core.List.{List, _++_}
-use Prim.Native.Nat.{ℕ, zero, suc, _+_, _*_, _-_, _/_, _%_, _^_, _<_, _≤_}
+use Prim.Native.Nat.{ℕ, _+_, _*_, _-_, _<_, _≤_}
 use native.Mathlib.Omega.{arith}
-use lib.ListN.{length, getD, drop, replicate, length-replicate, getD-replicate, List·getD-append}
-use Rattle.kernels.specs.Sum.{Plane, Planes}
+use lib.ListN.{length, getD, drop, length-replicate, getD-replicate, List·getD-append}
+use Rattle.kernels.specs.Sum.{Planes}
 use Rattle.plate.specs.Calls.{zeros}
-use Rattle.plate.specs.Passes.{planesAt, lane, downAt, downsAt, upAt, upsAt, totalAt, room, rowsAt, Fallen, Risen, Picture, Kept, Sizes, Planned, Both, lightAt, matteAt}
+use Rattle.plate.specs.Passes.{room, rowsAt, Picture, Kept, Sizes, Planned, lightAt, matteAt}
 use Rattle.plate.proofs.Regions.{placed}
 
 -- a picture whose room is not changed

@@ -1,17 +1,16 @@
 -- A picture's sums, one row further.
 use mathlib.Core.Path.{_≡_, refl, sym, ap, _∙_}
 use mathlib.Core.List.{List}
-use Prim.Native.Nat.{ℕ, zero, suc, _+_, _*_, _-_, _/_, _%_, _^_, _<_, _≤_}
+use Prim.Native.Nat.{ℕ, zero, suc, _+_, _*_, _-_, _%_, _^_, _<_, _≤_}
 use native.Mathlib.Omega.{arith}
 use native.Mathlib.Nat.{mod-mod}
 use native.Mathlib.Numerals.{add-one}
-use lib.ListN.{length, getD, set}
-use Rattle.kernels.specs.Choice.{within}
+use lib.ListN.{getD}
 use Rattle.kernels.specs.Sum.{sum, Row, Plane, Planes, running, across, down, add, slope, chain}
-use Rattle.kernels.proofs.Choices.{by-lt, if-within, within-yes, within-no}
+use Rattle.kernels.proofs.Choices.{if-within, within-yes, within-no}
 use Rattle.kernels.proofs.Sums.{cong-add}
 use Rattle.kernels.proofs.Planes.{slope-zero}
-use Rattle.plate.specs.Passes.{planeAt, planesAt, lines, lane, downAt, downsAt, upAt, upsAt, totalAt, room, Rows, rowsAt, Swept, RowSummed, marksAt, onto, plus, thirdRow, secondRow, firstRow, fallRow, riseRow, lineRow, sumsAt, sumsOf, above, Fallen, rises, Risen, Picture, Kept}
+use Rattle.plate.specs.Passes.{planeAt, planesAt, lines, downAt, downsAt, upAt, upsAt, totalAt, rowsAt, RowSummed, marksAt, onto, plus, thirdRow, secondRow, firstRow, fallRow, riseRow, lineRow, sumsOf, Fallen, Risen, Picture, Kept}
 use Rattle.plate.proofs.Regions.{Placed, placed, Away, away, away-before, away-after, away-down, away-downs, away-up, away-ups, down-step, downs-step, up-step, ups-step, down-later, downs-later, up-later, ups-later, downs-other, ups-other}
 use Rattle.plate.proofs.Tracks.{slope-above, fall-next, rises-in, rise-next}
 

@@ -1,7 +1,7 @@
 -- A row of a picture: one more column of its seven sums.
-use mathlib.Core.Path.{_≡_, refl, sym, ap, _∙_}
+use mathlib.Core.Path.{_≡_, refl, ap, _∙_}
 use mathlib.Core.List.{List}
-use Prim.Native.Nat.{ℕ, zero, suc, _+_, _*_, _-_, _%_, _^_, _<_, _≤_}
+use Prim.Native.Nat.{ℕ, _+_, _*_, _-_, _%_, _^_, _<_, _≤_}
 use native.Mathlib.Omega.{arith}
 use native.Mathlib.Nat.{mod-mod, add-mod-mod}
 use native.Mathlib.Numerals.{add-one}
@@ -9,7 +9,7 @@ use lib.ListN.{length, getD, set}
 use borrow.Author.Count.{below-none, below-more}
 use Rattle.kernels.specs.Sum.{sum, Row}
 use Rattle.kernels.proofs.Sums.{cong-add}
-use Rattle.plate.specs.Passes.{Rows, Across, Ordered, BoxCell, Swept, marksAt, onto, plus, thirdRow, secondRow, firstRow, fallRow, riseRow, lineRow, sumsAt, sumsOf, liftsAt, liftsOf}
+use Rattle.plate.specs.Passes.{Rows, Across, Ordered, BoxCell, marksAt, onto, plus, thirdRow, secondRow, firstRow, fallRow, riseRow, lineRow, sumsAt, sumsOf, liftsAt, liftsOf}
 use Rattle.plate.proofs.Sweeps.{Apart, apart-rows, Sweeping, sweep-start, sweep-cell, sweep-column}
 
 pub rows-apart : (r : Rows) (n l : ℕ) → Ordered r n l → Apart 7 n (sumsAt r)

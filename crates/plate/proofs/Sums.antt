@@ -1,11 +1,10 @@
 -- What a show sums: the finished planes of a plate that holds a grid's marks are the grid's plain sums, which do not wrap.
-use mathlib.Core.Path.{_≡_, refl, ap, _∙_}
+use mathlib.Core.Path.{_≡_, ap, _∙_}
 use mathlib.Core.List.{List}
 use Prim.Native.Nat.{ℕ, zero, suc, _+_, _*_, _/_, _%_, _^_, _≤_, _<_}
 use native.Mathlib.Omega.{arith}
 use native.Mathlib.Nat.{mod-mod, mod-eq-of-lt, le-trans, le-refl}
 use lib.ListN.{getD, length}
-use Rattle.kernels.specs.Choice.{within}
 use Rattle.kernels.specs.Sum.{sum, Row, dist, finish}
 use Rattle.kernels.specs.Tap.{weight}
 use Rattle.kernels.specs.Mark.{Mark, marksTo, planesOf}

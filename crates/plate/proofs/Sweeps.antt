@@ -1,13 +1,13 @@
 -- Rows of a list that are written column by column, and of each column the rows in their order.
-use mathlib.Core.Path.{_≡_, refl, sym, ap, _∙_}
+use mathlib.Core.Path.{_≡_, refl, _∙_}
 use mathlib.Core.List.{List}
-use Prim.Native.Nat.{ℕ, zero, suc, _+_, _*_, _-_, _%_, _^_, _<_, _≤_}
+use Prim.Native.Nat.{ℕ, zero, suc, _+_, _-_, _<_, _≤_}
 use native.Mathlib.Omega.{arith}
 use native.Mathlib.Numerals.{add-one}
 use lib.ListN.{length, getD, set, length-set}
 use lib.Seq.{getD-set-same, getD-set-other}
 use borrow.Author.Count.{below-more}
-use Rattle.kernels.proofs.Choices.{by-lt, by-eq}
+use Rattle.kernels.proofs.Choices.{by-lt}
 use Rattle.plate.specs.Passes.{Swept}
 
 -- the rows share no cell

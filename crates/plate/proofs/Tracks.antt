@@ -4,7 +4,6 @@ use mathlib.Core.List.{List}
 use Prim.Native.Nat.{ℕ, zero, suc, _+_, _*_, _-_, _%_, _^_, _<_, _≤_}
 use native.Mathlib.Omega.{arith}
 use lib.ListN.{getD}
-use Rattle.kernels.specs.Choice.{within}
 use Rattle.kernels.specs.Sum.{Plane, slope}
 use Rattle.kernels.proofs.Choices.{by-lt, if-within, within-yes, within-no}
 use Rattle.kernels.proofs.Slopes.{slopeIn, slope-in}

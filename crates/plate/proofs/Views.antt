@@ -1,9 +1,9 @@
 -- The rows of the image, and all of a show.
 use mathlib.Core.Path.{_≡_, refl, sym, ap, _∙_, fun-ext}
-use mathlib.Core.List.{List, [], _∷_, _++_, append-nil}
+use mathlib.Core.List.{List, _++_, append-nil}
 use Prim.Native.Nat.{ℕ, zero, suc, _+_, _*_, _-_, _/_, _%_, _^_, _<_, _≤_}
 use native.Mathlib.Omega.{arith}
-use native.Mathlib.Nat.{mul-le-mul-right, mul-zero, mul-comm, div-add-mod', mod-lt, div-lt-iff-lt-mul}
+use native.Mathlib.Nat.{mul-le-mul-right, mul-comm, div-add-mod', mod-lt, div-lt-iff-lt-mul}
 use native.Mathlib.Numerals.{add-one}
 use borrow.Author.Count.{below-more}
 use lib.ListN.{length, getD, drop}
@@ -12,9 +12,9 @@ use Rattle.kernels.specs.Choice.{within}
 use Rattle.kernels.specs.Sum.{sum, Plane, Planes, running, down, finish}
 use Rattle.kernels.specs.Rounding.{shownValue, shownMatte}
 use Rattle.plate.specs.Layout.{Size, wide, high, padded, cell, places, columnOf, rowOf}
-use Rattle.plate.specs.Refusal.{State, sizeOf, Accepted, Views, views, showCheck}
+use Rattle.plate.specs.Refusal.{State, sizeOf, Accepted, views, showCheck}
 use Rattle.plate.specs.Calls.{zeros, listTo, stored, sumAt, shown, answerOf, showBy}
-use Rattle.plate.specs.Passes.{planeAt, planesAt, lines, totalAt, room, lane, Picture, Planned, Both, lightAt, matteAt, ValuesShown, MattesShown, Pictured, ShowReady}
+use Rattle.plate.specs.Passes.{planeAt, planesAt, lines, totalAt, room, Picture, Planned, Both, lightAt, matteAt, ValuesShown, MattesShown, Pictured, ShowReady}
 use Rattle.plate.proofs.Accepted.{show-accepted}
 use Rattle.plate.proofs.Listing.{length-listTo, getD-listTo}
 

@@ -1,6 +1,6 @@
 -- The calls: what each answers, and what it leaves in every list that it is lent, for every input.
 use mathlib.Core.List.{List, [], _∷_, map}
-use Prim.Native.Nat.{ℕ, zero, suc, _+_, _*_, _-_, _/_, _%_, _^_, min}
+use Prim.Native.Nat.{ℕ, zero, suc, _+_, _*_, _-_, _%_, _^_, min}
 use lib.ListN.{getD, set, length, replicate}
 use Rattle.kernels.specs.Choice.{within}
 use Rattle.kernels.specs.Sum.{Planes, finish}
@@ -11,8 +11,8 @@ use Rattle.kernels.specs.Shape.{shapeOf, countOf, topUnder}
 use Rattle.kernels.specs.declared.lens.Lens.{Lens as LensOf}
 use Rattle.kernels.specs.Lens.{blur}
 use Rattle.kernels.specs.Rounding.{shownValue, shownMatte}
-use Rattle.plate.specs.Layout.{Size, wide, high, padded, cell, places, columnOf, rowOf}
-use Rattle.plate.specs.Word.{Pixel, empty, wordOf, Unpacked, Whole, Broken, readWord, Entry, EntryRead, Logged, Unreadable, readEntry}
+use Rattle.plate.specs.Layout.{Size, wide, high, cell, places, columnOf, rowOf}
+use Rattle.plate.specs.Word.{Pixel, empty, wordOf, Unpacked, Whole, Broken, readWord, EntryRead, Logged, Unreadable, readEntry}
 use Rattle.plate.specs.Refusal.{State, Answer, Refusal, StoredWord, Outcome, Accepted, Refused, sizeOf, stateOf, Lent, lent, Ask, Inputs, Views, views, sizedAs, openCheck, putCheck, undoCheck, fillCheck, showCheck}
 use Rattle.plate.specs.Marks.{exchanged, layGrid}
 

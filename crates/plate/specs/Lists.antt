@@ -6,10 +6,10 @@ use lib.ListN.{getD, length}
 use Rattle.kernels.specs.declared.lens.Lens.{Lens as LensOf}
 use Rattle.plate.specs.Layout.{Size, padded}
 use Rattle.plate.specs.Word.{wordOf}
-use Rattle.plate.specs.Refusal.{State, Outcome, Accepted, Refused, outcomeNumber, sizeOf, Lent, sizedAs, openCheck, Ask, ask, Inputs, inputs, Views}
+use Rattle.plate.specs.Refusal.{State, Outcome, Accepted, Refused, outcomeNumber, sizeOf, Lent, sizedAs, openCheck, ask, inputs, Views}
 use Rattle.plate.specs.Calls.{Left, Shown, openCall, putCall, undoCall, fillCall, showCall}
 use Rattle.plate.specs.Plain.{gridCell}
-use Rattle.plate.specs.Notebook.{Book, openBook, none, both, Report, plain, Turn, bookPut, bookUndo, bookFill, bookShow, logOf}
+use Rattle.plate.specs.Notebook.{Book, openBook, both, Report, plain, Turn, bookPut, bookUndo, bookFill, bookShow, logOf}
 
 -- "Opacity and radius come as bytes."
 pub record Byte : Type 0 where

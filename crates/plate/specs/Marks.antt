@@ -1,5 +1,5 @@
 -- The marks of pixels in the fourteen planes.
-use mathlib.Core.List.{List, [], _∷_, _++_}
+use mathlib.Core.List.{List, [], _∷_}
 use Prim.Native.Nat.{ℕ, zero, suc, _+_, _*_, _%_, _^_}
 use lib.ListN.{getD, set}
 use Rattle.kernels.specs.Choice.{same}

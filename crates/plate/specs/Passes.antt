@@ -4,9 +4,9 @@ use mathlib.Core.List.{List, [], _∷_}
 use Prim.Native.Nat.{ℕ, zero, suc, _+_, _*_, _-_, _/_, _%_, _^_, _≤_, _<_}
 use lib.ListN.{length, getD, set}
 use Rattle.kernels.specs.Choice.{within}
-use Rattle.kernels.specs.Sum.{sum, Row, Plane, Planes, running, across, down, add, slope, chain, finish}
+use Rattle.kernels.specs.Sum.{sum, Row, Plane, Planes, across, down, add, slope, chain, finish}
 use Rattle.kernels.specs.Rounding.{shownValue, shownMatte}
-use Rattle.plate.specs.Layout.{Size, wide, high, padded, places}
+use Rattle.plate.specs.Layout.{Size, padded, places}
 pub use Rattle.plate.specs.declared.pass.Rows.{Rows}
 pub use Rattle.plate.specs.declared.pass.Across.{Across}
 

@@ -2,7 +2,6 @@
 use Prim.Native.Nat.{ℕ, _+_, _*_, _/_, _%_, _^_}
 use lib.Dec.{leb, ltb}
 use Rattle.kernels.specs.Choice.{pick}
-use Rattle.kernels.specs.declared.shape.Shape.{Shape}
 use Rattle.kernels.specs.declared.shape.Shape.the-variants.{Box}
 use Rattle.kernels.specs.declared.shape.ShapeRead.{ShapeRead}
 use Rattle.kernels.specs.declared.shape.ShapeRead.the-variants.{Known, Unknown}

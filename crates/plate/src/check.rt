@@ -5,7 +5,7 @@ use crate::state::State;
 use kernels::ShapeRead;
 ghost use mathlib.Core.Path.{_≡_};
 ghost use Prim.Native.Nat.{ℕ, _*_, _≤_};
-ghost use Rattle.plate.specs.Layout.{Size, padded};
+ghost use Rattle.plate.specs.Layout.{padded};
 ghost use Rattle.plate.specs.Refusal.{Accepted, sizeOf, sized, ask, sizesCheck, lengthCheck, lentCheck, countCheck, askCheck, inputsCheck, viewsCheck, openCheck, putCheck, undoCheck, showCheck};
 
 // 1: whether a plate can have these sizes.

@@ -25,9 +25,10 @@ fn exchange(planes: &mut [u64], s: State, x: usize, y: usize, old: Pixel, new: P
     let f = frame_of(s);
     let old_shape = old.shape;
     let new_shape = new.shape;
-    let old_share = kernels::share::share(old_shape, old.radius);
+    let table = kernels::share::shares();
+    let old_share = kernels::share::share_in(&table, old_shape, old.radius);
     take_pixel(planes, s, f, x, y, old, old_share);
-    let new_share = kernels::share::share(new_shape, new.radius);
+    let new_share = kernels::share::share_in(&table, new_shape, new.radius);
     lay_pixel(planes, s, f, x, y, new, new_share);
 }
 

@@ -6,7 +6,6 @@ use crate::state::Outcome;
 use crate::state::State;
 use crate::state::refused;
 ghost use mathlib.Core.Path.{_≡_};
-ghost use Rattle.plate.specs.Layout.{Size};
 ghost use Rattle.plate.specs.Refusal.{lent};
 ghost use Rattle.plate.specs.Calls.{left, openCall};
 

@@ -2,11 +2,11 @@
 // of the image at once, so that no picture's sums are ever stored.
 ghost use mathlib.Core.Path.{_≡_};
 ghost use mathlib.Core.List.{_++_};
-ghost use Prim.Native.Nat.{ℕ, _+_, _*_, _<_, _≤_};
-ghost use lib.ListN.{length, getD, drop};
+ghost use Prim.Native.Nat.{_+_, _*_, _<_, _≤_};
+ghost use lib.ListN.{length, drop};
 ghost use Rattle.plate.specs.Refusal.{sizeOf, views, Accepted};
 ghost use Rattle.plate.specs.Calls.{zeros, answerOf, shown, showBy, showCall};
-ghost use Rattle.plate.specs.Passes.{totalAt, room, Planned, Both, ValuesShown, MattesShown, Pictured, ShowReady};
+ghost use Rattle.plate.specs.Passes.{Planned, Both, ValuesShown, MattesShown, Pictured, ShowReady};
 use crate::check::check_show;
 use crate::pass::lift_all;
 use crate::pass::picture_row;

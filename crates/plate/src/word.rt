@@ -3,7 +3,6 @@ use kernels::Shape;
 use kernels::ShapeRead;
 ghost use mathlib.Core.Path.{_≡_};
 ghost use Prim.Native.Nat.{_+_, _*_, _≤_, _<_, _^_};
-ghost use Rattle.plate.specs.Layout.{Size};
 ghost use Rattle.plate.specs.Word.{wordOf, readWord, readEntry};
 
 pub struct Pixel {

@@ -1,31 +1,29 @@
 -- Each record that a run can meet does to the machine what it does to the notebook.
-use mathlib.Core.Path.{_≡_, refl, ap, sym, _∙_}
-use mathlib.Core.Bool.{Bool, true, false, not}
-use mathlib.Core.List.{List, [], _∷_}
+use mathlib.Core.Path.{_≡_, refl, ap, _∙_}
+use mathlib.Core.Bool.{Bool, true, false}
+use mathlib.Core.List.{[]}
 use mathlib.Core.Logic.{_⊎_, inl, inr, ⊎-elim}
-use Prim.Native.Nat.{ℕ, _+_, _*_, _≤_, _<_}
+use Prim.Native.Nat.{ℕ, _*_, _≤_, _<_}
 use native.Mathlib.Omega.{arith}
 use borrow.Author.Tests.{lt-ltb, le-ltb, ne-eqb}
-use lib.Dec.{ltb, eqb}
-use lib.ListN.{length, take, replicate}
-use Rattle.kernels.specs.Choice.{pick}
+use lib.Dec.{ltb}
+use lib.ListN.{length, replicate}
 use Rattle.kernels.specs.Shape.{numberOf}
 use Rattle.kernels.proofs.Choices.{by-lt}
 use Rattle.plate.specs.Layout.{Size, padded, places}
 use Rattle.plate.specs.declared.state.Outcome.{Outcome}
 use Rattle.plate.specs.declared.state.Outcome.the-variants.{Accepted, Refused}
-use Rattle.plate.specs.declared.state.Refusal.{Refusal}
-use Rattle.plate.specs.declared.state.Refusal.the-variants.{Sizes as BadSizes, Lengths}
-use Rattle.plate.specs.Refusal.{refuseIf, stateOf, sizedAs, Lent, ask, sizesCheck, lengthCheck, lentCheck, openCheck}
+use Rattle.plate.specs.declared.state.Refusal.the-variants.{Sizes as BadSizes}
+use Rattle.plate.specs.Refusal.{refuseIf, stateOf, sizedAs, ask, sizesCheck, lentCheck, openCheck}
 use Rattle.plate.specs.Calls.{zeros, openBy, openCall}
 use Rattle.plate.specs.Word.{empty}
 use Rattle.plate.specs.Lists.{Plate, leftBy}
-use Rattle.plate.proofs.Checks.{passes, length-pass, lent-pass}
+use Rattle.plate.proofs.Checks.{lent-pass}
 use Rattle.plate.proofs.Kept.{Kept, mirror, put-agrees, undo-agrees}
 use Rattle.plate.proofs.Refilled.{open-kept, open-mirror}
-use Rattle.records.specs.Record.{Record, Open, Put, NoShape, Undo, Show, Stop, Sizes, Order, Cells}
-use Rattle.records.specs.Run.{Desk, closed, opened, Act, opensBy, opens, cellsCheck, act}
-use Rattle.records.specs.Machine.{Stage, Buffers, cellsOf, placesOf, lentOf, lentBack, openedBy, openOn, putOn, undoOn, recordOn}
+use Rattle.records.specs.Record.{Record, Open, Put, NoShape, Undo, Show}
+use Rattle.records.specs.Run.{Desk, opens, act}
+use Rattle.records.specs.Machine.{Stage, Buffers, cellsOf, placesOf, lentOf, openedBy, openOn, putOn, undoOn, recordOn}
 use Rattle.records.proofs.Lends.{few, places-few}
 use Rattle.records.proofs.Standing.{Sized, Stands, at-closed, at-open, Agrees, part-length, open-again, answered-agrees, show-agree}
 

@@ -1,7 +1,6 @@
 -- A kind that is none of 1 to 4 is unknown.
-use mathlib.Core.Path.{_≡_, refl, sym}
+use mathlib.Core.Path.{_≡_, refl}
 use Prim.Native.Nat.{ℕ, zero, suc}
-use native.Mathlib.Omega.{arith}
 use Rattle.records.specs.Record.{unknown, bodyLength}
 
 pub unknown-kind : (k : ℕ) → (k ≡ 1 → ⊥) → (k ≡ 2 → ⊥) → (k ≡ 3 → ⊥) → (k ≡ 4 → ⊥) → bodyLength k ≡ unknown

@@ -1,11 +1,11 @@
 -- FROM BYTES TO TEXT: what the machine writes is the text of the paper's rules, by induction over the records of the input.
 use mathlib.Core.Path.{_≡_, refl, ap, sym, _∙_}
 use mathlib.Core.Bool.{Bool, true, false}
-use mathlib.Core.List.{List, [], _∷_, _++_, append-nil, append-assoc}
-use Prim.Native.Nat.{ℕ, zero, suc, _+_, _*_, _-_, _^_, _≤_, _<_}
+use mathlib.Core.List.{List, [], _∷_, _++_, append-nil}
+use Prim.Native.Nat.{ℕ, zero, suc, _+_, _-_, _^_, _≤_, _<_}
 use native.Mathlib.Omega.{arith}
 use borrow.Author.Tests.{lt-ltb, le-ltb}
-use lib.Dec.{ltb, eqb, lit<}
+use lib.Dec.{eqb, lit<}
 use lib.ListN.{length, getD, take, drop, set, length-set, length-drop, length-map, length-replicate}
 use lib.Seq.{getD-take, getD-drop}
 use Rattle.kernels.specs.Choice.{pick}
@@ -16,10 +16,10 @@ use Rattle.kernels.proofs.Choices.{by-lt}
 use Rattle.plate.specs.Calls.{zeros}
 use Rattle.plate.specs.Notebook.{Book}
 use Rattle.plate.specs.Lists.{Byte, codes}
-use Rattle.records.specs.Record.{Record, Undo, Show, Kind, Body, Length, unknown, bytes, bodyLength, putRecord, recordOf, Items, next, stops, ended, withBody, itemsBy, itemsOf}
+use Rattle.records.specs.Record.{Record, Undo, Show, Kind, unknown, bytes, bodyLength, putRecord, recordOf, next, withBody, itemsBy, itemsOf}
 use Rattle.records.specs.Run.{Desk, closed, opened, Act, stop, go, act, stopText, thenText, textFrom, text}
-use Rattle.records.specs.Machine.{Stage, Closed, Opened, Ended, Machine, machine, Buffers, Did, recordOn, Fed, doneBy, settledOf, begunBy, begunOf, takenOf, fedBy, fedTaken, feedOf, endText, finishOf, feedAll, feedParts, joined, fed, fresh, zeroed, machineText, ending, EndToEnd, AnyCut, fedThen}
-use Rattle.records.proofs.Running.{run, onward, machine-text-run, run-ended, Live, fed-live, last-live, filled, filled-take, finished, body-read}
+use Rattle.records.specs.Machine.{Stage, Closed, machine, Buffers, Did, recordOn, Fed, doneBy, settledOf, begunBy, begunOf, takenOf, fedBy, fedTaken, feedOf, endText, finishOf, feedAll, feedParts, joined, fed, fresh, zeroed, machineText, ending, EndToEnd, AnyCut, fedThen}
+use Rattle.records.proofs.Running.{run, onward, machine-text-run, run-ended, Live, fed-live, last-live, filled, filled-take, body-read}
 use Rattle.records.proofs.Standing.{Sized, Stands, at-closed, at-open, Agrees}
 use Rattle.records.proofs.Acting.{Lawful, acts-agree}
 

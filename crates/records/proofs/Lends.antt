@@ -1,6 +1,6 @@
 -- What is lent of the buffers: a plate of at most 512 cells gets its cells and places, another nothing.
 use mathlib.Core.Path.{_≡_}
-use Prim.Native.Nat.{ℕ, _+_, _*_, _≤_, _<_}
+use Prim.Native.Nat.{ℕ, _≤_, _<_}
 use native.Mathlib.Omega.{arith}
 use borrow.Author.Tests.{lt-ltb, le-ltb}
 use Rattle.kernels.proofs.Choices.{by-lt}

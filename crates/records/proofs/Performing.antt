@@ -1,7 +1,7 @@
 -- What the code of a record leaves is what the definition says, from what the calls that it makes say.
 use mathlib.Core.Path.{_≡_, refl, ap, sym, _∙_}
-use mathlib.Core.List.{List, [], _∷_, _++_}
-use Prim.Native.Nat.{ℕ, zero, suc, _+_, _*_, _≤_, _<_}
+use mathlib.Core.List.{List, [], _++_}
+use Prim.Native.Nat.{ℕ, zero, suc, _+_, _*_, _≤_}
 use native.Mathlib.Omega.{arith}
 use borrow.Author.Tests.{ne-eqb}
 use lib.Dec.{eqb}
@@ -12,14 +12,14 @@ use Rattle.plate.specs.declared.state.State.{State}
 use Rattle.plate.specs.declared.state.Answer.{Answer}
 use Rattle.plate.specs.declared.state.Outcome.{Outcome}
 use Rattle.plate.specs.declared.state.Outcome.the-variants.{Accepted, Refused}
-use Rattle.plate.specs.Refusal.{refusalNumber, outcomeNumber, sizeOf, Lent, lent, Views, views}
+use Rattle.plate.specs.Refusal.{outcomeNumber, sizeOf, Lent, lent, Views, views}
 use Rattle.plate.specs.Calls.{Left, left, openCall, showCall}
 use Rattle.plate.proofs.Reports.{refusal-some}
 use Rattle.records.specs.Text.{numbered, refused, showText}
 use Rattle.records.specs.Record.{Stop, Sizes, Cells}
 use Rattle.records.specs.Run.{answerText, stopText}
 use Rattle.records.specs.Written.{written, Wrote}
-use Rattle.records.specs.Machine.{Stage, Closed, Opened, Ended, Buffers, buffers, cellsOf, placesOf, lentOf, lentBack, viewsOf, viewsBack, Did, did, stops, openedBy, openOn, answered, shownText, showOn, Done, DoneOut, done, doneOf, ShowDone, Machine, standing, doneBy, Fed, fed, Handed, handed, handOut, takenOf, fedTaken, fedAt, feedOf, endText, lastText, finishOf, Closing, closing, closeWith}
+use Rattle.records.specs.Machine.{Stage, Closed, Opened, Ended, Buffers, buffers, cellsOf, placesOf, lentOf, lentBack, viewsOf, viewsBack, Did, stops, openedBy, openOn, answered, shownText, showOn, Done, DoneOut, done, doneOf, ShowDone, Machine, standing, doneBy, Fed, fed, Handed, handed, handOut, takenOf, fedTaken, fedAt, feedOf, endText, lastText, finishOf, Closing, closing, closeWith}
 use Rattle.records.proofs.Writing.{written-none}
 
 -- LINES

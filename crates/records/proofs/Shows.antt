@@ -2,14 +2,14 @@
 use mathlib.Core.Path.{_≡_, refl, ap, sym, _∙_}
 use mathlib.Core.Bool.{not}
 use mathlib.Core.List.{List}
-use Prim.Native.Nat.{ℕ, _+_, _*_, _≤_, _<_}
+use Prim.Native.Nat.{ℕ, _+_, _*_, _≤_}
 use native.Mathlib.Omega.{arith}
 use borrow.Author.Tests.{eqb-true, not-false}
 use lib.Dec.{eqb}
 use lib.ListN.{length}
 use Rattle.kernels.proofs.Choices.{by-lt}
 use Rattle.kernels.proofs.Numbers.{product-le}
-use Rattle.plate.specs.Layout.{Size, wide, high, padded, places}
+use Rattle.plate.specs.Layout.{Size, wide, high, padded}
 use Rattle.plate.specs.declared.state.State.{State}
 use Rattle.plate.specs.declared.state.Answer.{Answer}
 use Rattle.plate.specs.declared.state.Outcome.{Outcome}

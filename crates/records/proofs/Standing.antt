@@ -1,29 +1,27 @@
 -- What a record makes of the machine and its buffers is what the paper's rules make of the notebook, while the plate in the front
 -- of the buffers mirrors the notebook.
 use mathlib.Core.Path.{_≡_, refl, ap, sym, _∙_}
-use mathlib.Core.List.{List, [], _∷_, _++_, append-nil}
-use Prim.Native.Nat.{ℕ, _+_, _*_, _-_, _≤_, _<_}
+use mathlib.Core.List.{List, _++_, append-nil}
+use Prim.Native.Nat.{ℕ, _+_, _*_, _-_, _≤_}
 use native.Mathlib.Omega.{arith}
 use lib.ListN.{length, take, drop, length-append, length-drop, length-map, length-replicate}
 use lib.Seq.{take-at, length-take-le}
 use Rattle.kernels.specs.Rounding.{shownValue, shownMatte}
 use Rattle.plate.specs.Layout.{Size, padded, places}
-use Rattle.plate.specs.declared.state.State.{State}
 use Rattle.plate.specs.declared.word.Pixel.{Pixel}
 use Rattle.plate.specs.declared.word.Entry.{Entry}
 use Rattle.plate.specs.Word.{wordOf}
 use Rattle.plate.specs.declared.state.Outcome.{Outcome}
 use Rattle.plate.specs.declared.state.Outcome.the-variants.{Accepted, Refused}
-use Rattle.plate.specs.Refusal.{stateOf, sizeOf, Lent, lent, refusalNumber, outcomeNumber, Views, lengthCheck, viewsCheck, showCheck}
+use Rattle.plate.specs.Refusal.{stateOf, Lent, refusalNumber, outcomeNumber, Views, lengthCheck, viewsCheck, showCheck}
 use Rattle.plate.specs.Calls.{Left, Shown, sumAt, showBy, showCall}
-use Rattle.plate.specs.Notebook.{Book, bookOf, Report, plain, Turn, bookShowBy, bookShow}
+use Rattle.plate.specs.Notebook.{bookOf, plain, Turn, bookShowBy, bookShow}
 use Rattle.plate.specs.Lists.{Plate, stepOf, shownTo, seenBy}
 use Rattle.plate.proofs.Checks.{Lawful, passes, length-pass, sizes-pass}
 use Rattle.plate.proofs.Listing.{length-listTo}
 use Rattle.plate.proofs.Demand.{show-agrees}
-use Rattle.plate.proofs.Logs.{logBy, log-length}
+use Rattle.plate.proofs.Logs.{log-length}
 use Rattle.plate.proofs.Kept.{Kept, heldBy, mirror, Agree}
-use Rattle.records.specs.Record.{Stop}
 use Rattle.records.specs.Run.{Desk, closed, opened, Act, stop, go, answerText, reportText, pictureText, stopText}
 use Rattle.records.specs.Run.{answered as bookAnswered}
 use Rattle.records.proofs.Lends.{few, places-few}

@@ -1,6 +1,5 @@
 -- A run of the record program: the text of the paper's rules applied to the notebook's answers.
-use mathlib.Core.Bool.{Bool, true, false}
-use mathlib.Core.List.{List, [], _∷_, _++_}
+use mathlib.Core.List.{List, [], _++_}
 use Prim.Native.Nat.{ℕ, zero, suc, _+_}
 use lib.Dec.{ltb}
 use Rattle.kernels.specs.Choice.{pick}
@@ -8,7 +7,7 @@ use Rattle.kernels.specs.Shape.{numberOf}
 use Rattle.plate.specs.Layout.{Size, padded}
 use Rattle.plate.specs.declared.state.Outcome.{Outcome}
 use Rattle.plate.specs.declared.state.Outcome.the-variants.{Accepted, Refused}
-use Rattle.plate.specs.Refusal.{sizesCheck, Ask, ask}
+use Rattle.plate.specs.Refusal.{sizesCheck, ask}
 use Rattle.plate.specs.Notebook.{Book, openBook, Pictures, none, both, Report, Turn, bookPut, bookUndo, bookShowBy}
 use Rattle.records.specs.Text.{stopped, refused, numbered, doneLine, showText}
 use Rattle.records.specs.Record.{Record, Open, Put, NoShape, Undo, Show, Stop, Sizes, Order, Cells, stopNumber, Items, ended, stops, next, itemsOf}

@@ -13,7 +13,6 @@ ghost use mathlib.Core.List.{List};
 ghost use Prim.Native.Nat.{ℕ, _+_, _*_, _<_, _≤_};
 ghost use lib.ListN.{length};
 ghost use Rattle.kernels.specs.Shape.{numberOf};
-ghost use Rattle.plate.specs.Layout.{Size};
 ghost use Rattle.plate.specs.Refusal.{outcomeNumber, sizeOf, ask, views};
 ghost use Rattle.plate.specs.Calls.{showCall};
 ghost use Rattle.records.specs.Run.{answerText, stopText};

@@ -2,10 +2,10 @@
 use kernels::ShapeRead;
 use plate::word::Pixel;
 ghost use mathlib.Core.Path.{_≡_};
-ghost use Prim.Native.Nat.{_+_, _*_, _^_, _<_};
+ghost use Prim.Native.Nat.{_+_, _*_, _<_};
 ghost use lib.ListN.{getD};
 ghost use Rattle.kernels.specs.Shape.{shapeOf};
-ghost use Rattle.records.specs.Record.{stopNumber, lengthOf, bodyLength, pair, putRecord, recordOf};
+ghost use Rattle.records.specs.Record.{stopNumber, lengthOf, bodyLength, putRecord, recordOf};
 
 // A put's place, and the pixel that it asks for.
 pub struct Stroke {

@@ -1,6 +1,6 @@
 // The text that a run prints, written into a lent slice from a place on. Each function answers the next place.
 ghost use mathlib.Core.Path.{_≡_};
-ghost use mathlib.Core.List.{[], _∷_, _++_};
+ghost use mathlib.Core.List.{[], _∷_};
 ghost use Prim.Native.Nat.{_+_, _*_, _^_, _<_, _≤_};
 ghost use lib.ListN.{length};
 ghost use Rattle.records.specs.Text.{decimal, space, numbered, doneLine, headLine, cellText, rowText, rowsText, showText};

@@ -1,7 +1,6 @@
 -- Each turn leaves at most 61,440 bytes of text.
 use mathlib.Core.Path.{_≡_}
 use Prim.Native.Nat.{_-_, _≤_}
-use native.Mathlib.Omega.{arith}
 use lib.ListN.{length}
 use borrow.Author.Needs.{needs}
 use Rattle.lens_records.proofs.part.Statement.{statement}

@@ -1,12 +1,11 @@
 -- `mark::draw` meets its contract: the ends of the pieces are those of the paper's lines around the kernel's centre.
-use mathlib.Core.Path.{_≡_, refl, ap, sym, _∙_}
-use Prim.Native.Nat.{ℕ, _+_, _*_, _-_, _/_}
+use mathlib.Core.Path.{_≡_}
+use Prim.Native.Nat.{ℕ, _+_, _*_, _-_}
 use native.Mathlib.Omega.{arith}
 use borrow.Author.Needs.{needs}
-use Rattle.kernels.specs.Shape.{Shape, reachOf}
 use Rattle.kernels.specs.Tap.{half}
-use Rattle.kernels.specs.Mark.{tapMarks, diamondMarks, hexagonMarks, octagonMarks}
-use Rattle.kernels.specs.Drawing.{drawnMarks, Two, Three}
+use Rattle.kernels.specs.Mark.{tapMarks, hexagonMarks, octagonMarks}
+use Rattle.kernels.specs.Drawing.{drawnMarks}
 use Rattle.kernels.proofs.Drawings.{grid-drawn, two-drawn, three-drawn}
 use Rattle.kernels.proofs.mark.draw.Statement.{statement}
 use Rattle.kernels.proofs.mark.draw.Tie as tie

@@ -1,6 +1,5 @@
 -- `pass::lift_row` meets its contract. The invariant: the columns before i are laid on.
-use mathlib.Core.Path.{_≡_, refl}
-use Prim.Native.Nat.{ℕ, _+_, _-_, _≤_, _<_}
+use Prim.Native.Nat.{_-_, _≤_}
 use native.Mathlib.Omega.{arith}
 use borrow.Author.Needs.{needs}
 use Rattle.plate.specs.Passes.{liftsAt, liftsOf}

@@ -1,6 +1,5 @@
 -- `pass::picture_row` meets its contract: the row is summed where its sums lie.
-use mathlib.Core.Path.{_≡_, refl}
-use Prim.Native.Nat.{ℕ, _+_, _*_, _-_, _≤_, _<_}
+use Prim.Native.Nat.{_-_}
 use native.Mathlib.Omega.{arith}
 use borrow.Author.Needs.{needs}
 use Rattle.plate.proofs.Regions.{row-in, placed, ordered}

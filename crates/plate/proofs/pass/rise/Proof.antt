@@ -1,5 +1,5 @@
 -- `pass::rise` meets its contract: what is left, with the mark put back, is what was.
-use mathlib.Core.Path.{_≡_, refl, ap}
+use mathlib.Core.Path.{refl, ap}
 use Prim.Native.Nat.{ℕ}
 use lib.ListN.{set}
 use borrow.Author.Needs.{needs}

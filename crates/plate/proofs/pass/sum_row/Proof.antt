@@ -1,9 +1,7 @@
 -- `pass::sum_row` meets its contract. The invariant: the columns before i are summed, and the sums across have their marks.
-use mathlib.Core.Path.{_≡_, refl}
-use Prim.Native.Nat.{ℕ, _+_, _-_, _≤_, _<_}
+use Prim.Native.Nat.{_-_, _≤_}
 use native.Mathlib.Omega.{arith}
 use borrow.Author.Needs.{needs}
-use lib.ListN.{length, length-set}
 use Rattle.plate.proofs.Sweeps.{sweep-all}
 use Rattle.plate.proofs.RowSums.{Running, running-start, running-next}
 use Rattle.plate.proofs.pass.sum_row.Statement.{statement}

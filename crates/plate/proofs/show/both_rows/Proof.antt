@@ -1,6 +1,6 @@
 -- `show::both_rows` meets its contract: a picture's row leaves the other picture's sums.
-use mathlib.Core.Path.{_≡_, refl, _∙_}
-use Prim.Native.Nat.{ℕ, _+_, _*_, _-_, _≤_, _<_}
+use mathlib.Core.Path.{_∙_}
+use Prim.Native.Nat.{_-_}
 use native.Mathlib.Omega.{arith}
 use borrow.Author.Needs.{needs}
 use Rattle.plate.proofs.Pairs.{light-sizes, matte-sizes, light-kept, matte-kept}

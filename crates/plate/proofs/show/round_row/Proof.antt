@@ -1,8 +1,7 @@
 -- `show::round_row` meets its contract. The invariant: the columns before i are shown.
-use mathlib.Core.Path.{_≡_, refl}
-use Prim.Native.Nat.{ℕ, _+_, _-_, _≤_, _<_}
+use Prim.Native.Nat.{_+_, _-_, _≤_}
 use native.Mathlib.Omega.{arith}
-use lib.ListN.{length, getD}
+use lib.ListN.{getD}
 use borrow.Author.Needs.{needs}
 use Rattle.kernels.specs.Rounding.{shownValue, shownMatte}
 use Rattle.plate.proofs.Sweeps.{Sweeping, sweep-start, sweep-one, sweep-all}

@@ -1,5 +1,5 @@
 -- `show::show` meets its contract: what the check lets pass is all that `show_all` counts on.
-use mathlib.Core.Path.{_≡_, refl, sym, _∙_}
+use mathlib.Core.Path.{sym, _∙_}
 use borrow.Author.Needs.{needs}
 use Rattle.plate.specs.Calls.{showBy, showCall}
 use Rattle.plate.proofs.Views.{show-ready}

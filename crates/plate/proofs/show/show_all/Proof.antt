@@ -1,6 +1,6 @@
 -- `show::show_all` meets its contract: the rows of the image show the finished sums, and the scratch is cleared at the end.
-use mathlib.Core.Path.{_≡_, refl, _∙_}
-use Prim.Native.Nat.{ℕ, _+_, _*_, _-_, _≤_, _<_}
+use mathlib.Core.Path.{_∙_}
+use Prim.Native.Nat.{_-_}
 use native.Mathlib.Omega.{arith}
 use borrow.Author.Needs.{needs}
 use Rattle.plate.proofs.Pairs.{planned-on}

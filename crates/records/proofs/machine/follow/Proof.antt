@@ -1,5 +1,4 @@
 -- By what there is to do next.
-use mathlib.Core.Path.{_∙_}
 use Rattle.records.specs.Record.{Kind, recordOf}
 use Rattle.records.specs.Machine.{buffers, stops, recordOn, fedBy}
 use Rattle.records.proofs.Performing.{stop-is, handed-nothing, handed-done}
