@@ -20,38 +20,22 @@ fn print_show(state: State, planes: &[u64]) {
     print_cell(values[2], mattes[2], b"\n");
 }
 
-fn main() {
-    let mut planes = [0u64; 1386];
-    let mut pixels = [0u64; 3];
-    let mut log = [0u64; 2];
-    let opened = plate::open::open(3, 1, 1, &mut planes, &mut pixels, &mut log);
-    let first = plate::put::put(
-        opened.state,
-        1,
-        0,
-        100,
-        255,
-        0,
-        1,
-        &mut planes,
-        &mut pixels,
-        &mut log,
-    );
-    let second = plate::put::put(
-        first.state,
-        0,
-        0,
-        40,
-        255,
-        0,
-        0,
-        &mut planes,
-        &mut pixels,
-        &mut log,
-    );
-    print_show(second.state, &planes);
-    let undone = plate::undo::undo(second.state, &mut planes, &mut pixels, &mut log);
-    print_show(undone.state, &planes);
+// An opaque box.
+fn put(
+    state: State,
+    x: usize,
+    value: u16,
+    radius: u8,
+    planes: &mut [u64],
+    pixels: &mut [u64],
+    log: &mut [u64],
+) -> State {
+    let answer = plate::put::put(state, x, 0, value, 255, 0, radius, planes, pixels, log);
+    answer.state
+}
+
+// A layer in three depths, in diamonds.
+fn fill(state: State, planes: &mut [u64], pixels: &mut [u64], log: &mut [u64]) -> State {
     let lens = Lens {
         opening: 250,
         focal: 500,
@@ -59,15 +43,29 @@ fn main() {
         pitch: 50,
     };
     let filled = plate::fill::fill(
-        undone.state,
+        state,
         lens,
         3,
         &[1000, 2000, 3000],
         &[255, 128, 255],
         &[20000, 40000, 0],
-        &mut planes,
-        &mut pixels,
-        &mut log,
+        planes,
+        pixels,
+        log,
     );
-    print_show(filled.state, &planes);
+    filled.state
+}
+
+fn main() {
+    let mut planes = [0u64; 1386];
+    let mut pixels = [0u64; 3];
+    let mut log = [0u64; 2];
+    let opened = plate::open::open(3, 1, 1, &mut planes, &mut pixels, &mut log);
+    let first = put(opened.state, 1, 100, 1, &mut planes, &mut pixels, &mut log);
+    let second = put(first, 0, 40, 0, &mut planes, &mut pixels, &mut log);
+    print_show(second, &planes);
+    let undone = plate::undo::undo(second, &mut planes, &mut pixels, &mut log);
+    print_show(undone.state, &planes);
+    let filled = fill(undone.state, &mut planes, &mut pixels, &mut log);
+    print_show(filled, &planes);
 }

@@ -18,8 +18,8 @@ use Rattle.plate.specs.Notebook.{Book}
 use Rattle.plate.specs.Lists.{Byte, codes}
 use Rattle.records.specs.Record.{Record, Undo, Show, Kind, unknown, bytes, bodyLength, putRecord, recordOf, next, withBody, itemsBy, itemsOf}
 use Rattle.records.specs.Run.{Desk, closed, opened, Act, stop, go, act, stopText, thenText, textFrom, text}
-use Rattle.records.specs.Machine.{Stage, Closed, machine, Buffers, Did, recordOn, Fed, doneBy, settledOf, begunBy, begunOf, takenOf, fedBy, fedTaken, feedOf, endText, finishOf, feedAll, feedParts, joined, fed, fresh, zeroed, machineText, ending, EndToEnd, AnyCut, fedThen}
-use Rattle.records.proofs.Running.{run, onward, machine-text-run, run-ended, Live, fed-live, last-live, filled, filled-take, body-read}
+use Rattle.records.specs.Machine.{Stage, Closed, machine, Buffers, Did, recordOn, Fed, doneBy, settledOf, begunBy, begunOf, takenOf, fedBy, fedTaken, endedAt, feedOf, endText, feedAll, feedParts, joined, fed, fresh, zeroed, machineText, ending, EndToEnd, AnyCut, fedThen}
+use Rattle.records.proofs.Running.{run, onward, machine-text-run, run-ended, fed-live, last-live, filled, filled-take, body-read}
 use Rattle.records.proofs.Standing.{Sized, Stands, at-closed, at-open, Agrees}
 use Rattle.records.proofs.Acting.{Lawful, acts-agree}
 
@@ -96,9 +96,9 @@ record-lawful kind b h =
     (pick-lawful (eqb kind 2) _ _ (put-lawful (shapeOf (getD b 7 0)) b h) (pick-lawful (eqb kind 3) Undo Show tt tt))
 
 -- A RECORD AND WHAT COMES AFTER IT
-stands-live : (s : Stage) (b : Buffers) (d : Desk) → Stands s b d → Live s
-stands-live s b d (at-closed h) = tt
-stands-live s b d (at-open z planes grid pile h small kept e) = tt
+stands-live : (s : Stage) (b : Buffers) (d : Desk) → Stands s b d → endedAt s ≡ false
+stands-live s b d (at-closed h) = refl
+stands-live s b d (at-open z planes grid pile h small kept e) = refl
 
 goes-on : (k : ℕ) (a : Act) (d : Did) (s : Stage) (kind whole : ℕ) (body : List ℕ) (xs : List ℕ) (rest : Desk → List ℕ) → Agrees k a d
     → ((t : Stage) (b : Buffers) (book : Book) → Stands t b (opened book)
@@ -144,11 +144,11 @@ known-kind n follows m few kind front s body k b d xs short stands nine fits sma
     (drop-bytes m xs small))))
 
 -- a byte of kind
-kind-fed : (s : Stage) → Live s → (kind whole : ℕ) (body : List ℕ) (k x : ℕ) (b : Buffers) → k < 2 ^ 64 - 1
+kind-fed : (s : Stage) → endedAt s ≡ false → (kind whole : ℕ) (body : List ℕ) (k x : ℕ) (b : Buffers) → k < 2 ^ 64 - 1
     → feedOf (machine s kind whole whole body k) x b ≡ fedTaken (begunBy (bodyLength x) (machine s x whole whole body (k + 1))) b
-unfolding feedOf takenOf begunOf
+unfolding takenOf begunOf
 kind-fed s live kind whole body k x b h =
-    fed-live s (machine s kind whole whole body k) x b live ∙ rw (le-ltb whole whole (omega arith), lt-ltb k (2 ^ 64 - 1) h)
+    fed-live (machine s kind whole whole body k) x b live ∙ rw (le-ltb whole whole (omega arith), lt-ltb k (2 ^ 64 - 1) h)
 
 module _ (n : ℕ) (follows : Follows n) (s : Stage) (whole : ℕ) (body : List ℕ) (k : ℕ) (b : Buffers) (d : Desk) (xs : List ℕ)
     (short : length xs < n) (stands : Stands s b d) (nine : length body ≡ 9) (fits : k + 1 + length xs < 2 ^ 64) (small : Bytes xs) where
@@ -174,10 +174,10 @@ module _ (n : ℕ) (follows : Follows n) (s : Stage) (whole : ℕ) (body : List 
   kinds (suc (suc (suc (suc (suc x))))) = no-kind (suc (suc (suc (suc (suc x))))) refl
 
 follows-all : (n : ℕ) → Follows n
-unfolding run itemsBy finishOf endText textFrom
+unfolding run itemsBy endText textFrom
 follows-all zero s kind whole body k b d input short stands nine fits small = absurd (omega arith)
 follows-all (suc n) s kind whole body k b d [] short stands nine fits small =
-    last-live s (machine s kind whole whole body k) (stands-live s b d stands) ∙ rw (le-ltb whole whole (omega arith))
+    last-live (machine s kind whole whole body k) (stands-live s b d stands) ∙ rw (le-ltb whole whole (omega arith))
 follows-all (suc n) s kind whole body k b d (x ∷ xs) short stands nine fits small =
     ap (λ (f : Fed). onward f xs) (kind-fed s (stands-live s b d stands) kind whole body k x b (omega arith))
     ∙ kinds n (follows-all n) s whole body k b d xs (omega arith) stands nine (omega arith) (λ i. small (suc i)) x

@@ -19,7 +19,7 @@ use Rattle.records.specs.Text.{numbered, refused, showText}
 use Rattle.records.specs.Record.{Stop, Sizes, Cells}
 use Rattle.records.specs.Run.{answerText, stopText}
 use Rattle.records.specs.Written.{written, Wrote}
-use Rattle.records.specs.Machine.{Stage, Closed, Opened, Ended, Buffers, buffers, cellsOf, placesOf, lentOf, lentBack, viewsOf, viewsBack, Did, stops, openedBy, openOn, answered, shownText, showOn, Done, DoneOut, done, doneOf, ShowDone, Machine, standing, doneBy, Fed, fed, Handed, handed, handOut, takenOf, fedTaken, fedAt, feedOf, endText, lastText, finishOf, Closing, closing, closeWith}
+use Rattle.records.specs.Machine.{Opened, Ended, Buffers, buffers, cellsOf, placesOf, lentOf, lentBack, viewsOf, viewsBack, Did, stops, openedBy, openOn, answered, shownText, showOn, Done, DoneOut, done, doneOf, ShowDone, Machine, standing, doneBy, Fed, fed, Handed, handed, handOut, Closing, closing, closeWith}
 use Rattle.records.proofs.Writing.{written-none}
 
 -- LINES
@@ -110,19 +110,6 @@ show-is k s b n t m d p o q shown =
     rw (o, q) (done-is d _ _ (now .stage-is) (ap (λ (v : Views). viewsBack (sizeOf s) v b) (now .seen-is)) (now .wrote))
 
 -- FED
--- where a machine stands says whether it takes a byte
-pub fed-closed : (m : Machine) (x : ℕ) (b : Buffers) → m .stage ≡ Closed → feedOf m x b ≡ fedTaken (takenOf m x) b
-unfolding feedOf fedAt
-fed-closed m x b e = ap (λ (s : Stage). fedAt s m x b) e
-
-pub fed-opened : (m : Machine) (x : ℕ) (b : Buffers) (s : State) → m .stage ≡ Opened s → feedOf m x b ≡ fedTaken (takenOf m x) b
-unfolding feedOf fedAt
-fed-opened m x b s e = ap (λ (s : Stage). fedAt s m x b) e
-
-pub fed-ended : (m : Machine) (x : ℕ) (b : Buffers) → m .stage ≡ Ended → feedOf m x b ≡ fed m b []
-unfolding feedOf fedAt
-fed-ended m x b e = ap (λ (s : Stage). fedAt s m x b) e
-
 pub handed-nothing : (m : Machine) (b : Buffers) (out : List ℕ) → handed m 0 b out ≡ handOut (fed m b []) out
 handed-nothing m b out = rw (written-none out 0)
 
@@ -133,18 +120,6 @@ handed-done m next d b out after w e same =
     (ap (λ (o : DoneOut). handed (standing m (o .answer .stage)) (o .answer .written) (o .buffers) (o .out)) e)
 
 -- THE END
-pub end-closed : (m : Machine) → m .stage ≡ Closed → finishOf m ≡ endText m
-unfolding finishOf lastText
-end-closed m e = ap (λ (s : Stage). lastText s m) e
-
-pub end-opened : (m : Machine) (s : State) → m .stage ≡ Opened s → finishOf m ≡ endText m
-unfolding finishOf lastText
-end-opened m s e = ap (λ (s : Stage). lastText s m) e
-
-pub end-ended : (m : Machine) → m .stage ≡ Ended → finishOf m ≡ []
-unfolding finishOf lastText
-end-ended m e = ap (λ (s : Stage). lastText s m) e
-
 pub closing-nothing : (out : List ℕ) → closing out 0 ≡ closeWith [] out
 closing-nothing out = rw (written-none out 0)
 

@@ -1,6 +1,6 @@
 -- A machine fed byte by byte: a body is held byte by byte and its record then done at once, and an ended machine writes nothing.
 use mathlib.Core.Path.{_≡_, refl, ap, sym, _∙_}
-use mathlib.Core.Bool.{Bool}
+use mathlib.Core.Bool.{Bool, false}
 use mathlib.Core.List.{List, [], _∷_, _++_, append-assoc, append-nil}
 use Prim.Native.Nat.{ℕ, zero, suc, _+_, _≤_, _<_}
 use native.Mathlib.Numerals.{add-one}
@@ -13,7 +13,7 @@ use Rattle.kernels.specs.Choice.{pick}
 use Rattle.kernels.proofs.Choices.{by-lt}
 use Rattle.records.specs.Record.{Body, recordOf}
 use Rattle.records.specs.Run.{stopText}
-use Rattle.records.specs.Machine.{Stage, Closed, Opened, Ended, Machine, machine, Buffers, recordOn, Fed, fed, fedThen, doneBy, settledOf, carriedOf, takenOf, fedBy, fedTaken, fedAt, feedOf, endText, lastText, finishOf, feedAll, fresh, zeroed, machineText}
+use Rattle.records.specs.Machine.{Stage, Ended, Machine, machine, Buffers, recordOn, Fed, fed, fedThen, doneBy, settledOf, carriedOf, takenOf, fedBy, fedTaken, endedAt, feedOf, endText, finishOf, feedAll, fresh, zeroed, machineText}
 
 -- THE TEXT FROM A MACHINE ON
 unfoldable pub run : Machine → Buffers → List ℕ → List ℕ
@@ -36,27 +36,18 @@ machine-text-run input = all-onward (fed fresh zeroed []) input
 
 pub run-ended : (kind held whole : ℕ) (body : List ℕ) (count : ℕ) (b : Buffers) (xs : List ℕ)
     → run (machine Ended kind held whole body count) b xs ≡ []
-unfolding run finishOf lastText feedOf fedAt
+unfolding run finishOf feedOf
 run-ended kind held whole body count b [] = refl
 run-ended kind held whole body count b (x ∷ xs) = run-ended kind held whole body count b xs
 
 -- THE END HAS NOT COME
-abbrev pub Live : Stage → Type 0
-Live Closed = Unit {0}
-Live (Opened s) = Unit {0}
-Live Ended = ⊥
+pub fed-live : (m : Machine) (x : ℕ) (b : Buffers) → endedAt (m .stage) ≡ false → feedOf m x b ≡ fedTaken (takenOf m x) b
+unfolding feedOf
+fed-live m x b h = rw h
 
-pub fed-live : (s : Stage) (m : Machine) (x : ℕ) (b : Buffers) → Live s → fedAt s m x b ≡ fedTaken (takenOf m x) b
-unfolding fedAt
-fed-live Closed m x b h = refl
-fed-live (Opened s) m x b h = refl
-fed-live Ended m x b h = absurd h
-
-pub last-live : (s : Stage) (m : Machine) → Live s → lastText s m ≡ endText m
-unfolding lastText
-last-live Closed m h = refl
-last-live (Opened s) m h = refl
-last-live Ended m h = absurd h
+pub last-live : (m : Machine) → endedAt (m .stage) ≡ false → finishOf m ≡ endText m
+unfolding finishOf
+last-live m h = rw h
 
 -- A BODY
 -- the bytes held, with the next j bytes of the input from place i on
@@ -91,18 +82,18 @@ settled-does : (s : Stage) (kind whole : ℕ) (body : List ℕ) (count : ℕ) (b
 unfolding settledOf fedBy
 settled-does s kind whole body count b = rw (le-ltb whole whole (omega arith))
 
-fed-body : (s : Stage) → Live s → (kind held whole : ℕ) (body : List ℕ) (count x : ℕ) (b : Buffers) → held < whole → held < 9
+fed-body : (s : Stage) → endedAt s ≡ false → (kind held whole : ℕ) (body : List ℕ) (count x : ℕ) (b : Buffers) → held < whole → held < 9
     → feedOf (machine s kind held whole body count) x b
     ≡ fedTaken (settledOf (machine s kind (held + 1) whole (set body held x) count)) b
-unfolding feedOf takenOf carriedOf
+unfolding takenOf carriedOf
 fed-body s live kind held whole body count x b h few =
-    fed-live s (machine s kind held whole body count) x b live ∙ rw (lt-ltb held whole h, lt-ltb held 9 few)
+    fed-live (machine s kind held whole body count) x b live ∙ rw (lt-ltb held whole h, lt-ltb held 9 few)
 
-cut-short : (s : Stage) → Live s → (kind held whole : ℕ) (body : List ℕ) (count : ℕ) → held < whole
+cut-short : (s : Stage) → endedAt s ≡ false → (kind held whole : ℕ) (body : List ℕ) (count : ℕ) → held < whole
     → finishOf (machine s kind held whole body count) ≡ stopText count Body
-unfolding finishOf endText
+unfolding endText
 cut-short s live kind held whole body count h =
-    last-live s (machine s kind held whole body count) live ∙ rw (lt-ltb held whole h)
+    last-live (machine s kind held whole body count) live ∙ rw (lt-ltb held whole h)
 
 fewer : (a b : ℕ) → ltb a b ≡ ltb (suc a) (suc b)
 fewer a b =
@@ -111,7 +102,7 @@ fewer a b =
     (λ h. rw (le-ltb a b h, le-ltb (suc a) (suc b) (omega arith)))
 
 -- a machine that waits for j bytes of a body: 14 where the input has fewer, else the record is done with the next j bytes
-pub body-read : (s : Stage) → Live s → (kind held whole : ℕ) (body : List ℕ) (count : ℕ) (b : Buffers) (xs : List ℕ) (j : ℕ)
+pub body-read : (s : Stage) → endedAt s ≡ false → (kind held whole : ℕ) (body : List ℕ) (count : ℕ) (b : Buffers) (xs : List ℕ) (j : ℕ)
     → held + j ≡ whole → whole ≤ 9
     → onward (fedTaken (settledOf (machine s kind held whole body count)) b) xs
     ≡ pick (ltb (length xs) j) (stopText count Body) (onward (finished s kind whole (filled body held xs j) count b) (drop j xs))

@@ -243,33 +243,23 @@ fedBy Do m b = doneBy m (recordOn (m .count) (m .stage) (recordOf (m .kind) (m .
 abbrev pub fedTaken : Taken → Buffers → Fed
 fedTaken t b = fedBy (t .next) (t .machine) b
 
-unfoldable pub fedAt : Stage → Machine → ℕ → Buffers → Fed
-fedAt Ended m x b = fed m b []
-fedAt Closed m x b = fedTaken (takenOf m x) b
-fedAt (Opened s) m x b = fedTaken (takenOf m x) b
-
--- what a byte makes of a machine
-unfoldable pub feedOf : Machine → ℕ → Buffers → Fed
-feedOf m x b = fedAt (m .stage) m x b
-
--- no byte after a stop changes anything
+-- whether a run has stopped
 abbrev pub endedAt : Stage → Bool
 endedAt Closed = false
 endedAt (Opened s) = false
 endedAt Ended = true
+
+-- what a byte makes of a machine; no byte after a stop changes anything
+unfoldable pub feedOf : Machine → ℕ → Buffers → Fed
+feedOf m x b = pick (endedAt (m .stage)) (fed m b []) (fedTaken (takenOf m x) b)
 
 -- the text at the end of the input. 14: "body cut short"; "Input that ends after a whole record, or is empty, prints `done` and
 -- the record count."
 unfoldable pub endText : Machine → List ℕ
 endText m = pick (ltb (m .held) (m .whole)) (stopText (m .count) Body) (doneLine (m .count))
 
-unfoldable pub lastText : Stage → Machine → List ℕ
-lastText Ended m = []
-lastText Closed m = endText m
-lastText (Opened s) m = endText m
-
 unfoldable pub finishOf : Machine → List ℕ
-finishOf m = lastText (m .stage) m
+finishOf m = pick (endedAt (m .stage)) [] (endText m)
 
 -- CALLS
 -- what a call of feed leaves: the text stands at the start of what it is lent for it

@@ -10,7 +10,7 @@ ghost use mathlib.Core.Path.{_≡_};
 ghost use Prim.Native.Nat.{_≤_};
 ghost use lib.ListN.{length};
 ghost use Rattle.records.specs.Written.{Wrote};
-ghost use Rattle.records.specs.Machine.{buffers, AllRoom, endedAt, fresh, standing, settledOf, begunOf, carriedOf, takenOf, fedTaken, handed, handOut, feedCall, endText, closing, finishCall};
+ghost use Rattle.records.specs.Machine.{buffers, AllRoom, endedAt, fresh, standing, settledOf, begunOf, carriedOf, takenOf, fedBy, Do, fedTaken, handed, handOut, feedCall, endText, closing, finishCall};
 
 // A run between two bytes: where it stands, the record that is being read (its kind, how many bytes of its body are held, and of
 // how many), and how many records have begun.
@@ -170,6 +170,42 @@ fn take(m: Machine, byte: u8) -> Taken
     begun(m, byte)
 }
 
+// A record whose body is whole is done.
+fn complete(
+    m: Machine,
+    planes: &mut [u64],
+    pixels: &mut [u64],
+    log: &mut [u64],
+    scratch: &mut [u64],
+    values: &mut [u16],
+    mattes: &mut [u8],
+    out: &mut [u8],
+) -> Fed
+    requires { ⌜ AllRoom (now planes) (now pixels) (now scratch) (now values) (now mattes) (now out) ⌝ }
+    ensures { λ r. ⌜ handed (r .machine) (r .written) (buffers (now (planes .exit)) (now (pixels .exit)) (now (log .exit)) (now (scratch .exit)) (now (values .exit)) (now (mattes .exit))) (now (out .exit)) ≡ handOut (fedBy Do m (buffers (now (planes .entry)) (now (pixels .entry)) (now (log .entry)) (now (scratch .entry)) (now (values .entry)) (now (mattes .entry)))) (now (out .entry)) ⌝ }
+{
+    let stage = m.stage;
+    let body = m.body;
+    let item = record::read(m.kind, body);
+    let done = perform(
+        stage,
+        item,
+        m.count,
+        planes,
+        pixels,
+        log,
+        scratch,
+        values,
+        mattes,
+        out,
+    );
+    let now = done.stage;
+    Fed {
+        machine: moved(m, now),
+        written: done.written,
+    }
+}
+
 // What comes of a byte that is taken in.
 fn follow(
     t: Taken,
@@ -203,28 +239,7 @@ fn follow(
                 written: done.written,
             }
         }
-        Next::Do => {
-            let body = m.body;
-            let whole = record::read(m.kind, body);
-            let stage = m.stage;
-            let done = perform(
-                stage,
-                whole,
-                m.count,
-                planes,
-                pixels,
-                log,
-                scratch,
-                values,
-                mattes,
-                out,
-            );
-            let now = done.stage;
-            Fed {
-                machine: moved(m, now),
-                written: done.written,
-            }
-        }
+        Next::Do => complete(m, planes, pixels, log, scratch, values, mattes, out),
     }
 }
 
@@ -250,33 +265,22 @@ pub fn feed(
             written: 0,
         };
     }
-    let stage = m.stage;
-    match stage {
-        Stage::Ended => Fed {
+    if ended(m) {
+        return Fed {
             machine: m,
             written: 0,
-        },
-        Stage::Closed => follow(
-            take(m, byte),
-            planes,
-            pixels,
-            log,
-            scratch,
-            values,
-            mattes,
-            out,
-        ),
-        Stage::Opened(_) => follow(
-            take(m, byte),
-            planes,
-            pixels,
-            log,
-            scratch,
-            values,
-            mattes,
-            out,
-        ),
+        };
     }
+    follow(
+        take(m, byte),
+        planes,
+        pixels,
+        log,
+        scratch,
+        values,
+        mattes,
+        out,
+    )
 }
 
 // The end of a run that has not stopped: 14 where a body is cut short, else the record count.
@@ -299,10 +303,8 @@ pub fn finish(m: Machine, out: &mut [u8]) -> usize
     if out.len() < 4096 {
         return 0;
     }
-    let stage = m.stage;
-    match stage {
-        Stage::Ended => 0,
-        Stage::Closed => end(m, out),
-        Stage::Opened(_) => end(m, out),
+    if ended(m) {
+        return 0;
     }
+    end(m, out)
 }

@@ -1,6 +1,6 @@
 -- By what there is to do next.
-use Rattle.records.specs.Record.{Kind, recordOf}
-use Rattle.records.specs.Machine.{buffers, stops, recordOn, fedBy}
+use Rattle.records.specs.Record.{Kind}
+use Rattle.records.specs.Machine.{buffers, stops, fedBy}
 use Rattle.records.proofs.Performing.{stop-is, handed-nothing, handed-done}
 use borrow.Author.Needs.{needs}
 use Rattle.records.proofs.machine.follow.Statement.{statement}
@@ -27,30 +27,20 @@ moved-requires-2 c κs = search needs
 enum-told-4 : tie.Need-enum-told-4
 enum-told-4 c = search needs
 
-read-requires : tie.Need-read-requires
-read-requires c κs = search needs
-
-perform-requires : tie.Need-perform-requires
-perform-requires c κs = search needs
-
-moved-requires-3 : tie.Need-moved-requires-3
-moved-requires-3 c κs = search needs
+complete-requires : tie.Need-complete-requires
+complete-requires c κs = search needs
 
 returns : tie.Need-returns
 unfolding fedBy
 returns c =
     let a = c .before .before .before .before .before .before .before .before .before .before .args in
-    rw (c .enum-told .given .1)
-    (handed-nothing (a .t .machine)
-    (buffers (a .planes .now) (a .pixels .now) (a .log .now) (a .scratch .now) (a .values .now) (a .mattes .now)) (a .out .now))
+    rw (c .enum-told .given .1) (handed-nothing (a .t .machine) (buffers (a .planes .now) (a .pixels .now) (a .log .now) (a .scratch .now) (a .values .now) (a .mattes .now)) (a .out .now))
 
 returns-2 : tie.Need-returns-2
 unfolding fedBy
 returns-2 c =
     let a = c .before .before .before .before .before .before .before .before .before .before .before .args in
-    rw (c .before .enum-told2 .given .1, c .moved .ensures)
-    (handed-nothing _
-    (buffers (a .planes .now) (a .pixels .now) (a .log .now) (a .scratch .now) (a .values .now) (a .mattes .now)) (a .out .now))
+    rw (c .before .enum-told2 .given .1, c .moved .ensures) (handed-nothing _ (buffers (a .planes .now) (a .pixels .now) (a .log .now) (a .scratch .now) (a .values .now) (a .mattes .now)) (a .out .now))
 
 same-length : tie.Need-same-length
 same-length c = search needs
@@ -90,16 +80,7 @@ same-length-8 c = search needs
 
 returns-4 : tie.Need-returns-4
 unfolding fedBy
-returns-4 c =
-    let a = c .before .before .before .before .before .before .before .before .before .before .before .before .before .before .before .before .before .before .before .before .before .before .before .before .before .before .before .before .before .before .before .before .before .before .before .args in
-    let m = a .t .machine in
-    let did = c .before .before .before .before .before .before .before .before .before .before .before .before .before .before .before .perform in
-    let b = buffers (a .planes .now) (a .pixels .now) (a .log .now) (a .scratch .now) (a .values .now) (a .mattes .now) in
-    rw (c .before .before .before .before .before .before .before .before .before .before .before .before .before .before .before .before .before .before .before .before .before .before .before .before .before .enum-told4 .given .1)
-    (handed-done m (c .moved3 .result) (did .result) _ (a .out .now) _
-    (recordOn (m .count) (m .stage) (recordOf (m .kind) (m .body)) b)
-    (rw (← c .before .before .before .before .before .before .before .before .before .before .before .before .before .before .before .before .before .before .before .before .before .before .before .read .ensures) (did .ensures))
-    (c .moved3 .ensures))
+returns-4 c = rw (c .before .before .before .before .before .before .before .before .before .before .before .before .before .before .before .before .before .before .before .before .before .before .enum-told4 .given .1) (c .before .before .before .before .before .before .before .before .before .before .before .before .before .before .complete .ensures)
 
 pub follow-spec : {M : Type 1} → statement M
 follow-spec =
@@ -112,9 +93,7 @@ follow-spec =
     stop-requires
     moved-requires-2
     enum-told-4
-    read-requires
-    perform-requires
-    moved-requires-3
+    complete-requires
     returns
     returns-2
     same-length
