@@ -9,3 +9,4 @@ pub mod Running
 pub mod Standing
 pub mod Acting
 pub mod EndToEnd
+pub mod Worked
