@@ -43,20 +43,17 @@ fn main_table(engines: &[Engine]) {
     println!("## {width} × {height}, radii 0 to 64 by a ramp of depths\n");
     let mut table = Table::new(&["call", "engine", "to handmade", "to one read", "time"]);
     for (engine, time) in engines.iter().zip(&times.engines) {
-        table.row([
-            "fill".into(),
-            engine.name.into(),
-            ratio(time.fill, handmade.fill),
-            ratio(time.fill, times.read),
-            milliseconds(time.fill),
-        ]);
-        table.row([
-            "show".into(),
-            engine.name.into(),
-            ratio(time.show, handmade.show),
-            ratio(time.show, times.read),
-            milliseconds(time.show),
-        ]);
+        let whole_plate =
+            [("fill", time.fill, handmade.fill), ("show", time.show, handmade.show)];
+        for (call, time, by_hand) in whole_plate {
+            table.row([
+                call.into(),
+                engine.name.into(),
+                ratio(time, by_hand),
+                ratio(time, times.read),
+                milliseconds(time),
+            ]);
+        }
         table.row([
             "put + undo".into(),
             engine.name.into(),

@@ -1,7 +1,11 @@
 -- The planes are those that `exchange` leaves, the word is the packed pixel, and the two counts are at most 16 each.
+use mathlib.Core.Path.{ap}
+use Prim.Native.Nat.{ℕ}
 use native.Mathlib.Omega.{arith}
 use borrow.Author.Needs.{needs}
 use Rattle.kernels.proofs.Shapes.{count-few}
+use Rattle.plate.specs.Refusal.{Accepted, sizeOf, stateOf}
+use Rattle.plate.specs.Calls.{answerOf}
 use Rattle.plate.proofs.exchange.replace.Statement.{statement}
 use Rattle.plate.proofs.exchange.replace.Tie as tie
 
@@ -42,8 +46,9 @@ same-length-2 c = search needs
 
 returns : tie.Need-returns
 returns c =
-    let packed = c .before .before in (
-      rw (c .before .mark-count .ensures, c .mark-count2 .ensures),
+    let packed = c .before .before in
+    let a = c .before .before .before .before .before .before .before .before .before .before .args in (
+      ap (λ (n : ℕ). answerOf Accepted n (stateOf (sizeOf (a .s)) (a .count))) (omega (arith, c .before .mark-count .ensures, c .mark-count2 .ensures)),
       packed .before .before .before .before .exchange .ensures,
       rw (packed .pack .ensures),
     )
