@@ -294,11 +294,11 @@ unfoldable pub finishCall : Machine → List ℕ → Closing
 finishCall m out = closeWith (pick (ltb (length out) 4096) [] (finishOf m)) out
 
 -- A RUN
--- "The log has 64 entries."
+-- the machine before the first byte
 abbrev pub fresh : Machine
 fresh = machine Closed 0 0 0 (zeros 9) 0
 
--- "zeroed planes and scratch, arrays of 7,168 and 1,536 cells"
+-- "zeroed planes and scratch, arrays of 7,168 and 1,536 cells"; "The log has 64 entries."
 abbrev pub zeroed : Buffers
 zeroed = buffers (zeros 7168) (zeros 512) (zeros 64) (zeros 1536) (zeros 512) (zeros 512)
 

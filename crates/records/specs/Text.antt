@@ -51,15 +51,17 @@ doneLine k = done ++ (space ∷ decimal k) ++ (newline ∷ [])
 unfoldable pub headLine : ℕ → ℕ → List ℕ
 headLine w h = plate ++ (space ∷ decimal w) ++ (space ∷ decimal h) ++ (newline ∷ [])
 
--- the cells from place i on, n of them, a space before each but the first of the row
+-- the cell at place i
 unfoldable pub cellText : List ℕ → List ℕ → ℕ → List ℕ
 cellText values mattes i = decimal (getD values i 0) ++ (slash ∷ decimal (getD mattes i 0))
 
+-- the cells from place i on, n of them, a space before each but the first
 unfoldable pub rowText : List ℕ → List ℕ → ℕ → ℕ → List ℕ
 rowText values mattes i zero = []
 rowText values mattes i (suc zero) = cellText values mattes i
 rowText values mattes i (suc (suc n)) = rowText values mattes i (suc n) ++ (space ∷ cellText values mattes (i + suc n))
 
+-- h rows of w cells, a line for each
 unfoldable pub rowsText : List ℕ → List ℕ → ℕ → ℕ → List ℕ
 rowsText values mattes w zero = []
 rowsText values mattes w (suc h) = rowsText values mattes w h ++ rowText values mattes (h * w) w ++ (newline ∷ [])
