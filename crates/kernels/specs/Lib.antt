@@ -1,9 +1,10 @@
+pub mod Fixed
 pub mod Choice
 pub mod Sum
 pub mod Shape
 pub mod Tap
 pub mod Share
 pub mod Mark
-pub mod Drawing
 pub mod Rounding
 pub mod Lens
+pub mod code

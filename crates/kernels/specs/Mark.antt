@@ -1,12 +1,13 @@
 -- The marks of a kernel.
 use mathlib.Core.List.{List, [], _∷_, _++_}
 use Prim.Native.Nat.{ℕ, zero, suc, _+_, _*_, _-_, _^_}
+use Rattle.kernels.specs.Fixed.{level, secondBox, thirdBox}
 use Rattle.kernels.specs.Choice.{same}
 use Rattle.kernels.specs.Sum.{Planes}
 use Rattle.kernels.specs.Shape.{Shape, Box, Tent, Triple, Diamond, Hexagon, Octagon}
 use Rattle.kernels.specs.Tap.{half, share}
 
--- a mark: in one of a picture's seven planes, at a column and a row, with a signed coefficient
+-- a mark: in one of a picture's planes, at a column and a row, with a signed coefficient
 pub record Mark : Type 0 where
   pub plane : ℕ
   pub column : ℕ
@@ -62,12 +63,12 @@ run d u n = record { downs = d; ups = u; columns = n }
 
 -- a line from (x, y) on, piece by piece: "A piece has a mark at its start and the opposite one a step past its last column, in
 -- the plane of its slope. Pieces of no columns still make both." The next piece starts where that step led.
-unfoldable pub line : ℕ → ℕ → ℕ → ℕ → List Run → List Mark
-line p q x y [] = []
-line p q x y (s ∷ rest) =
-    mark (2 + s .downs - s .ups) x y p
-    ∷ mark (2 + s .downs - s .ups) (x + s .columns) (y + s .downs * s .columns - s .ups * s .columns) q
-    ∷ line p q (x + s .columns) (y + s .downs * s .columns - s .ups * s .columns) rest
+unfoldable pub lineMarks : ℕ → ℕ → ℕ → ℕ → List Run → List Mark
+lineMarks p q x y [] = []
+lineMarks p q x y (s ∷ rest) =
+    mark (level + s .downs - s .ups) x y p
+    ∷ mark (level + s .downs - s .ups) (x + s .columns) (y + s .downs * s .columns - s .ups * s .columns) q
+    ∷ lineMarks p q (x + s .columns) (y + s .downs * s .columns - s .ups * s .columns) rest
 
 -- the same pieces turned upside down
 unfoldable pub flipped : List Run → List Run
@@ -75,26 +76,26 @@ flipped [] = []
 flipped (s ∷ rest) = run (s .ups) (s .downs) (s .columns) ∷ flipped rest
 
 -- "in each column the taps run from −h to h. The top line −h counts plus, the line h + 1 minus": h is the first column's
-unfoldable pub lines : ℕ → ℕ → List Run → ℕ → ℕ → List Mark
-lines r h top X Y = line 1 (minus 1) (X - r) (Y - h) top ++ line (minus 1) 1 (X - r) (Y + h + 1) (flipped top)
+unfoldable pub outlineMarks : ℕ → ℕ → List Run → ℕ → ℕ → List Mark
+outlineMarks r h top X Y = lineMarks 1 (minus 1) (X - r) (Y - h) top ++ lineMarks (minus 1) 1 (X - r) (Y + h + 1) (flipped top)
 
 -- "Each line is three pieces of constant slope (two for the diamond); a column that two pieces fit goes to the later one, so
 -- the last takes the middle or the flat's right end."
 unfoldable pub diamondMarks : ℕ → ℕ → ℕ → List Mark
-diamondMarks r = lines r 0 (run 0 1 r ∷ run 1 0 (r + 1) ∷ [])
+diamondMarks r = outlineMarks r 0 (run 0 1 r ∷ run 1 0 (r + 1) ∷ [])
 
 unfoldable pub hexagonMarks : ℕ → ℕ → ℕ → ℕ → List Mark
-hexagonMarks r t = lines r 0 (run 0 2 t ∷ run 0 0 (2 * (r - t)) ∷ run 2 0 (t + 1) ∷ [])
+hexagonMarks r t = outlineMarks r 0 (run 0 2 t ∷ run 0 0 (2 * (r - t)) ∷ run 2 0 (t + 1) ∷ [])
 
 unfoldable pub octagonMarks : ℕ → ℕ → ℕ → ℕ → List Mark
-octagonMarks r t = lines r t (run 0 1 (r - t) ∷ run 0 0 (2 * t) ∷ run 1 0 (r - t + 1) ∷ [])
+octagonMarks r t = outlineMarks r t (run 0 1 (r - t) ∷ run 0 0 (2 * t) ∷ run 1 0 (r - t + 1) ∷ [])
 
 -- KERNELS
 -- the marks of the taps of a kernel around (X, Y): boxes in "slope 0, second or third"
 unfoldable pub tapMarks : Shape → ℕ → ℕ → ℕ → List Mark
-tapMarks Box r X Y = boxMarks 2 1 r X Y
-tapMarks Tent r X Y = boxMarks 5 2 r X Y
-tapMarks Triple r X Y = boxMarks 6 3 r X Y
+tapMarks Box r X Y = boxMarks level 1 r X Y
+tapMarks Tent r X Y = boxMarks secondBox 2 r X Y
+tapMarks Triple r X Y = boxMarks thirdBox 3 r X Y
 tapMarks Diamond r X Y = diamondMarks r X Y
 tapMarks Hexagon r X Y = hexagonMarks r (half r) X Y
 tapMarks Octagon r X Y = octagonMarks r (half r) X Y

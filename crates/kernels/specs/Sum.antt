@@ -1,6 +1,7 @@
 -- Sums: of finitely many numbers, and the sums that finish a picture's planes.
 -- They are plain sums of natural numbers. "Sums wrap at 2^64 on the way": cells are compared by their remainders at 2^64.
 use Prim.Native.Nat.{ℕ, zero, suc, _+_, _-_}
+use Rattle.kernels.specs.Fixed.{level, secondBox, thirdBox}
 use Rattle.kernels.specs.Choice.{within}
 
 -- f 0 + .. + f (n - 1)
@@ -44,7 +45,7 @@ slope d u m (suc x) y = m (suc x) y + within d (y + u) (slope d u m x (y + u - d
 
 -- "Third box: summed across and down, added to second; summed again, added to slope 0."
 unfoldable pub chain : Planes → Plane
-chain m = add (m 2) (down (across (add (m 5) (down (across (m 6))))))
+chain m = add (m level) (down (across (add (m secondBox) (down (across (m thirdBox))))))
 
 -- "The five slope sums are added and summed downwards."
 unfoldable pub finish : Planes → Plane

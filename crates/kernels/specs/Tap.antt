@@ -1,5 +1,6 @@
 -- Taps, areas, shares and weights of the kernels.
 use Prim.Native.Nat.{ℕ, zero, suc, _+_, _*_, _-_, _/_, _%_, min}
+use Rattle.kernels.specs.Fixed.{unit, radii}
 use Rattle.kernels.specs.Choice.{within, same}
 use Rattle.kernels.specs.Sum.{Row, sum, dist}
 use Rattle.kernels.specs.Shape.{Shape, Box, Tent, Triple, Diamond, Hexagon, Octagon, ShapeRead, Known, Unknown, shapeOf, topOf, reachOf}
@@ -14,9 +15,9 @@ unfoldable pub box : ℕ → Row → Row
 box l f x = sum (λ j. shift j f x) l
 
 -- n boxes of l ones convolved with a row
-unfoldable pub boxes : ℕ → ℕ → Row → Row
-boxes zero l f = f
-boxes (suc n) l f = box l (boxes n l f)
+unfoldable pub convolved : ℕ → ℕ → Row → Row
+convolved zero l f = f
+convolved (suc n) l f = box l (convolved n l f)
 
 -- 1 in the first cell
 unfoldable pub one : Row
@@ -24,7 +25,7 @@ one x = same x 0 1
 
 -- n boxes of radius r convolved: 2 n r + 1 taps, of which the middle one is number n r; the tap d cells from the middle
 unfoldable pub boxTap : ℕ → ℕ → ℕ → ℕ
-boxTap n r d = boxes n (2 * r + 1) one (n * r + d)
+boxTap n r d = convolved n (2 * r + 1) one (n * r + d)
 
 -- TAPS
 -- "t is r / 2 rounded down"
@@ -58,19 +59,19 @@ area s r =
 
 -- "The share s is 8,388,608 / A rounded down."
 unfoldable pub share : Shape → ℕ → ℕ
-share s r = 8388608 / area s r
+share s r = unit / area s r
 
 -- "0 above the top"
 unfoldable pub shareUpTo : Shape → ℕ → ℕ
 shareUpTo s r = within r (topOf s) (share s r)
 
--- "The shares for all six shapes and every radius stand in one table of 390 entries": 65 radii for each shape
+-- "The shares for all six shapes and every radius stand in one table": shape by shape, each radius by radius
 abbrev pub shareOf : ShapeRead → ℕ → ℕ
 shareOf (Known s) r = shareUpTo s r
 shareOf Unknown r = 0
 
 unfoldable pub shareAt : ℕ → ℕ
-shareAt k = shareOf (shapeOf (k / 65)) (k % 65)
+shareAt k = shareOf (shapeOf (k / radii)) (k % radii)
 
 -- WEIGHTS
 -- what a pixel of opacity 1 adds to the matte sum of a cell: "a × s × tap"

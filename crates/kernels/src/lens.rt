@@ -1,10 +1,12 @@
 // The radius from depth, by the thin lens formula in whole numbers.
+use crate::fixed::DEPTH_TOP;
 use crate::rounding::rounded;
 ghost use mathlib.Core.Path.{_≡_};
 ghost use mathlib.Core.Bool.{true};
 ghost use Prim.Native.Nat.{_≤_};
 ghost use Rattle.kernels.specs.Sum.{dist};
 ghost use Rattle.kernels.specs.Lens.{lawfulLens, blur, radiusFrom};
+ghost use Rattle.kernels.specs.Fixed.{depthTop};
 
 // Opening, focal length and focus in 0.1 mm, pitch in 0.1 µm.
 pub struct Lens {
@@ -13,6 +15,18 @@ pub struct Lens {
     pub focus: u32,
     pub pitch: u32,
 }
+
+// The bounds of a lens's numbers.
+const OPENING_TOP: u32 = 4000;
+
+const FOCAL_TOP: u32 = 4000;
+
+const FOCUS_TOP: u32 = 10000000;
+
+const PITCH_TOP: u32 = 1000;
+
+// The formula's factor: from 0.1 mm over 0.1 µm to pixels, and from a diameter to its half.
+const LENS_FACTOR: u64 = 500;
 
 // A radius, or why there is none.
 pub enum Radius {
@@ -28,25 +42,25 @@ pub fn lawful_lens(l: Lens) -> bool
     if l.opening < 1 {
         return false;
     }
-    if 4000 < l.opening {
+    if OPENING_TOP < l.opening {
         return false;
     }
     if l.focal < 1 {
         return false;
     }
-    if 4000 < l.focal {
+    if FOCAL_TOP < l.focal {
         return false;
     }
     if l.focus <= l.focal {
         return false;
     }
-    if 10000000 < l.focus {
+    if FOCUS_TOP < l.focus {
         return false;
     }
     if l.pitch < 1 {
         return false;
     }
-    if 1000 < l.pitch {
+    if PITCH_TOP < l.pitch {
         return false;
     }
     true
@@ -65,10 +79,10 @@ fn apart(a: u64, b: u64) -> u64
 // The radius that the formula gives, before any top. For a lawful lens no product is above 10^17, so none wraps.
 fn blurred(l: Lens, depth: u32) -> u64
     requires { ⌜ lawfulLens l ≡ true ⌝ }
-    requires { ⌜ depth ≤ 10000000 ⌝ }
+    requires { ⌜ depth ≤ depthTop ⌝ }
     ensures { λ r. ⌜ r ≡ blur l depth ⌝ }
 {
-    let scale = 500 * l.opening as u64 * l.focal as u64;
+    let scale = LENS_FACTOR * l.opening as u64 * l.focal as u64;
     let pitch = l.pitch as u64;
     let past = (l.focus - l.focal) as u64;
     if depth == 0 {
@@ -85,7 +99,7 @@ pub fn radius_from(l: Lens, top: u8, depth: u32) -> Radius
     if !lawful_lens(l) {
         return Radius::NoLens;
     }
-    if 10000000 < depth {
+    if DEPTH_TOP < depth {
         return Radius::NoDepth;
     }
     let r = blurred(l, depth);

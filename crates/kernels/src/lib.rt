@@ -1,4 +1,5 @@
 // The kernels of the lens: shapes, shares, marks, the radius from depth, and rounding. Knows nothing of plates.
+pub mod fixed;
 pub mod lens;
 pub mod mark;
 pub mod rounding;
@@ -13,3 +14,5 @@ pub use mark::Line;
 pub use mark::Outline;
 pub use shape::Shape;
 pub use shape::ShapeRead;
+pub use share::Share;
+pub use share::Table;

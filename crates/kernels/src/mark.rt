@@ -2,8 +2,13 @@
 ghost use mathlib.Core.Path.{_≡_};
 ghost use Prim.Native.Nat.{_+_, _*_, _≤_};
 ghost use Rattle.kernels.specs.Shape.{reachOf};
+ghost use Rattle.kernels.specs.Fixed.{level, margin};
 ghost use Rattle.kernels.specs.Mark.{tapMarks};
-ghost use Rattle.kernels.specs.Drawing.{drawnMarks, outlineOf};
+ghost use Rattle.kernels.specs.code.Drawing.{drawnMarks, outlineOf};
+use crate::fixed::LEVEL;
+use crate::fixed::MARGIN;
+use crate::fixed::SECOND_BOX;
+use crate::fixed::THIRD_BOX;
 use crate::shape::Shape;
 
 // Boxes convolved: count + 1 marks along each axis, a side apart, in one plane.
@@ -20,10 +25,12 @@ pub struct Line {
     pub past: usize,
 }
 
-// Two lines: the planes of their sloping pieces, the columns where the pieces end, and the rows of each line.
+// Two lines: the planes of their sloping pieces, whether a level piece lies between them, the columns where the pieces end,
+// and the rows of each line. The diamond's lines have no level piece, and go back where they turn.
 pub struct Outline {
     pub rising: usize,
     pub falling: usize,
+    pub flat: bool,
     pub left: usize,
     pub turn: usize,
     pub back: usize,
@@ -32,27 +39,34 @@ pub struct Outline {
     pub bottom: Line,
 }
 
-// The lines have two pieces (the diamond's) or three.
 pub enum Drawing {
     Grid(Boxes),
-    Two(Outline),
-    Three(Outline),
+    Lines(Outline),
 }
 
-// The ends of the pieces. A first column edge rows high, then rise columns of the given slope, flat columns, and back.
-fn piece_ends(radius: usize, edge: usize, slope: usize, rise: usize, flat: usize) -> Outline
-    requires { ⌜ (radius ≤ 255) × (edge + slope * rise ≤ radius) × (rise ≤ radius) × (flat ≤ 2 * radius) × (slope ≤ 2) ⌝ }
-    ensures { λ r. ⌜ r ≡ outlineOf radius edge slope rise flat ⌝ }
+// The ends of the pieces. A first column edge rows high, then rise columns of the given slope, wide level ones, and back.
+fn piece_ends(
+    radius: usize,
+    edge: usize,
+    slope: usize,
+    rise: usize,
+    wide: usize,
+    flat: bool,
+) -> Outline
+    requires { ⌜ (radius ≤ 255) × (rise ≤ radius) × (wide ≤ 2 * radius) ⌝ }
+    requires { ⌜ (slope ≤ level) × (edge + slope * rise ≤ radius) ⌝ }
+    ensures { λ r. ⌜ r ≡ outlineOf radius edge slope rise wide flat ⌝ }
 {
     let height = slope * rise;
-    let top = radius + 3 - edge;
-    let bottom = radius + 3 + edge + 1;
-    let turn = 3 + rise;
-    let back = turn + flat;
+    let top = radius + MARGIN - edge;
+    let bottom = radius + MARGIN + edge + 1;
+    let turn = MARGIN + rise;
+    let back = turn + wide;
     Outline {
-        rising: 2 - slope,
-        falling: 2 + slope,
-        left: 3,
+        rising: LEVEL - slope,
+        falling: LEVEL + slope,
+        flat: flat,
+        left: MARGIN,
         turn: turn,
         back: back,
         right: back + (rise + 1),
@@ -71,28 +85,28 @@ fn piece_ends(radius: usize, edge: usize, slope: usize, rise: usize, flat: usize
 
 // The marks of the kernel of a shape and a radius.
 pub fn draw(s: Shape, radius: u8) -> Drawing
-    ensures { λ r. ⌜ drawnMarks r ≡ tapMarks s radius (reachOf s radius + 3) (reachOf s radius + 3) ⌝ }
+    ensures { λ r. ⌜ drawnMarks r ≡ tapMarks s radius (reachOf s radius + margin) (reachOf s radius + margin) ⌝ }
 {
     let r = radius as usize;
     let t = r / 2;
     match s {
         Shape::Box => Drawing::Grid(Boxes {
-            plane: 2,
+            plane: LEVEL,
             count: 1,
             side: 2 * r + 1,
         }),
         Shape::Tent => Drawing::Grid(Boxes {
-            plane: 5,
+            plane: SECOND_BOX,
             count: 2,
             side: 2 * r + 1,
         }),
         Shape::Triple => Drawing::Grid(Boxes {
-            plane: 6,
+            plane: THIRD_BOX,
             count: 3,
             side: 2 * r + 1,
         }),
-        Shape::Diamond => Drawing::Two(piece_ends(r, 0, 1, r, 0)),
-        Shape::Hexagon => Drawing::Three(piece_ends(r, 0, 2, t, 2 * (r - t))),
-        Shape::Octagon => Drawing::Three(piece_ends(r, t, 1, r - t, 2 * t)),
+        Shape::Diamond => Drawing::Lines(piece_ends(r, 0, 1, r, 0, false)),
+        Shape::Hexagon => Drawing::Lines(piece_ends(r, 0, 2, t, 2 * (r - t), true)),
+        Shape::Octagon => Drawing::Lines(piece_ends(r, t, 1, r - t, 2 * t, true)),
     }
 }

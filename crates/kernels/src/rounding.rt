@@ -1,4 +1,7 @@
 // Rounding to the nearest, a half upwards.
+use crate::fixed::MATTE_TOP;
+use crate::fixed::UNIT;
+use crate::fixed::VALUE_TOP;
 ghost use mathlib.Core.Path.{_≡_};
 ghost use Prim.Native.Nat.{_<_};
 ghost use Rattle.kernels.specs.Rounding.{nearest, shownValue, shownMatte};
@@ -25,18 +28,23 @@ pub fn shown_value(light: u64, matte: u64) -> u16
         return 0;
     }
     let q = rounded(light, matte);
-    if q < 4095 {
+    if q < VALUE_TOP as u64 {
         return q as u16;
     }
-    4095
+    VALUE_TOP
 }
 
-// The matte that a cell shows. Below 255 × 8,388,608 adding a half does not wrap, and from there on it is 255.
+// The least matte sum that shows the top without rounding, and half of what a shown matte is counted in.
+const WHOLE: u64 = MATTE_TOP as u64 * UNIT;
+
+const HALF: u64 = UNIT / 2;
+
+// The matte that a cell shows. Below the whole, adding a half does not wrap, and from there on it is the top.
 pub fn shown_matte(matte: u64) -> u8
     ensures { λ r. ⌜ r ≡ shownMatte matte ⌝ }
 {
-    if matte < 2139095040 {
-        return ((matte + 4194304) / 8388608) as u8;
+    if matte < WHOLE {
+        return ((matte + HALF) / UNIT) as u8;
     }
-    255
+    MATTE_TOP
 }

@@ -1,11 +1,20 @@
-// The shares: what a pixel of opacity 1 adds to a cell for each tap.
+// The shares of the kernels, out of one table.
 ghost use mathlib.Core.Path.{_≡_};
 ghost use Rattle.kernels.specs.Share.{shareTable, tableShare};
+use crate::fixed::RADII;
+use crate::fixed::TABLE_ROWS;
 use crate::shape::Shape;
 use crate::shape::number;
 
-// 65 shares for each of the six shapes, one for each radius from 0 to 64; 0 above the shape's top.
-const SHARES: [u32; 390] = [
+// What a pixel of opacity 1 adds for each tap.
+pub struct Share {
+    pub each: u32,
+}
+
+// For each shape one share for each radius, from radius 0 on; 0 above the shape's top.
+pub type Table = [u32; TABLE_ROWS];
+
+const SHARES: Table = [
     8388608,
     932067,
     335544,
@@ -399,20 +408,20 @@ const SHARES: [u32; 390] = [
 ];
 
 // The table. A const array is built anew at each use, so a caller has it made once and lends it to its look-ups.
-pub fn shares() -> [u32; 390]
+pub fn shares() -> Table
     ensures { λ r. ⌜ r ≡ shareTable ⌝ }
 {
     SHARES
 }
 
 // What a table holds for a shape and a radius; 0 for a radius that it has no place for.
-pub fn share_in(table: &[u32; 390], s: Shape, radius: u8) -> u32
+pub fn share_in(table: &Table, s: Shape, radius: u8) -> Share
     ensures { λ r. ⌜ r ≡ tableShare (now (table .entry)) s radius ⌝ }
 {
-    if radius <= 64 {
-        let place = 65 * (number(s) as usize) + (radius as usize);
-        table[place]
+    if (radius as usize) < RADII {
+        let place = RADII * (number(s) as usize) + (radius as usize);
+        Share { each: table[place] }
     } else {
-        0
+        Share { each: 0 }
     }
 }

@@ -2,17 +2,20 @@
 use Rattle.kernels.specs.declared.lens.Lens.{Lens}
 use Rattle.plate.specs.declared.state.State.{State}
 use Rattle.plate.specs.declared.state.Answer.{Answer}
-use Rattle.plate.specs.Refusal.{outcomeNumber, Lent, Views}
+use Rattle.plate.specs.Refusal.{outcomeNumber}
+use Rattle.plate.specs.Layout.{sizeFrom}
+use Rattle.plate.specs.Lent.{stateOf, Lent, Views}
 use Rattle.plate.specs.Calls.{Left, Shown}
 pub use Rattle.lens_c.specs.declared.LensState.{LensState}
 pub use Rattle.lens_c.specs.declared.LensLens.{LensLens}
 pub use Rattle.lens_c.specs.declared.LensAnswer.{LensAnswer}
 
 abbrev pub stateIn : LensState → State
-stateIn s = record { width = s .width; height = s .height; reach = s .reach; count = s .count }
+stateIn s = stateOf (sizeFrom (s .width) (s .height) (s .reach)) (s .count)
 
 abbrev pub stateOut : State → LensState
-stateOut s = record { width = s .width; height = s .height; reach = s .reach; count = s .count }
+stateOut s =
+    record { width = s .size .width; height = s .size .height; reach = s .size .reach; count = s .count }
 
 abbrev pub lensIn : LensLens → Lens
 lensIn l = record { opening = l .opening; focal = l .focal; focus = l .focus; pitch = l .pitch }

@@ -1,10 +1,12 @@
 // The C interface of the plate: the same calls in the same order, a slice as pointer then length. include/lens.h declares it.
 ghost use mathlib.Core.Path.{_≡_};
-ghost use Rattle.plate.specs.Refusal.{lent, ask, inputs, views};
+ghost use Rattle.plate.specs.Layout.{sizeFrom};
+ghost use Rattle.plate.specs.Lent.{lent, ask, inputs, views};
 ghost use Rattle.plate.specs.Calls.{openCall, putCall, undoCall, fillCall, showCall};
 ghost use Rattle.lens_c.specs.Interface.{stateIn, lensIn, answerOut, LeftOut, leftOut, ShownOut, shownOut};
 use kernels::Lens;
 use plate::Answer;
+use plate::Size;
 use plate::State;
 
 #[repr(C)]
@@ -34,9 +36,11 @@ fn state_in(s: LensState) -> State
     ensures { λ r. ⌜ r ≡ stateIn s ⌝ }
 {
     State {
-        width: s.width,
-        height: s.height,
-        reach: s.reach,
+        size: Size {
+            width: s.width,
+            height: s.height,
+            reach: s.reach,
+        },
         count: s.count,
     }
 }
@@ -50,9 +54,9 @@ fn answer_out(a: Answer) -> LensAnswer
         number: plate::state::number(outcome),
         marks: a.marks,
         state: LensState {
-            width: a.state.width,
-            height: a.state.height,
-            reach: a.state.reach,
+            width: a.state.size.width,
+            height: a.state.size.height,
+            reach: a.state.size.reach,
             count: a.state.count,
         },
     }
@@ -67,7 +71,7 @@ pub extern "C" fn lens_open(
     pixels: &mut [u64],
     log: &mut [u64],
 ) -> LensAnswer
-    ensures { λ r. ⌜ _≡_ {A = LeftOut} (record { answer = r; kept = lent (now (planes .exit)) (now (pixels .exit)) (now (log .exit)) }) (leftOut (openCall (record { width = width; height = height; reach = reach }) (lent (now (planes .entry)) (now (pixels .entry)) (now (log .entry))))) ⌝ }
+    ensures { λ r. ⌜ _≡_ {A = LeftOut} (record { answer = r; kept = lent (now (planes .exit)) (now (pixels .exit)) (now (log .exit)) }) (leftOut (openCall (sizeFrom width height reach) (lent (now (planes .entry)) (now (pixels .entry)) (now (log .entry))))) ⌝ }
 {
     answer_out(plate::open::open(width, height, reach, planes, pixels, log))
 }

@@ -1,10 +1,28 @@
 // The record program: records from standard input, their text to standard output.
 use libc::STDIN_FILENO;
 use libc::STDOUT_FILENO;
+use records::fixed::CELLS;
+use records::fixed::LOG;
+use records::fixed::Log;
+use records::fixed::Mattes;
+use records::fixed::PLANE_CELLS;
+use records::fixed::Pixels;
+use records::fixed::Planes;
+use records::fixed::SCRATCH_CELLS;
+use records::fixed::Scratch;
+use records::fixed::TEXT;
+use records::fixed::Values;
 use records::machine::Machine;
 ghost use Prim.Native.Nat.{_+_, _≤_};
 ghost use mathlib.Core.Path.{_≡_};
 ghost use lib.ListN.{length};
+ghost use Rattle.lens_records.specs.Fixed.{bufferRoom, fullFrom};
+
+// The bytes of the buffer that text is collected in, and how many may stand there before the next byte: the text of any record
+// still fits then.
+const BUFFER: usize = 65536;
+
+const FULL: usize = BUFFER - TEXT;
 
 // A run on its way: the machine, how much text stands at the start of the buffer, whether every read and write has gone well, and
 // whether there is more to read.
@@ -43,16 +61,16 @@ fn flush(run: Run, text: &mut [u8]) -> Run
 fn step(
     run: Run,
     byte: u8,
-    planes: &mut [u64; 7168],
-    pixels: &mut [u64; 512],
-    log: &mut [u64; 64],
-    scratch: &mut [u64; 1536],
-    values: &mut [u16; 512],
-    mattes: &mut [u8; 512],
+    planes: &mut Planes,
+    pixels: &mut Pixels,
+    log: &mut Log,
+    scratch: &mut Scratch,
+    values: &mut Values,
+    mattes: &mut Mattes,
     text: &mut [u8],
 ) -> Run
-    requires { ⌜ (run .used ≤ 61440) × (length (now text) ≡ 65536) ⌝ }
-    ensures { λ r. ⌜ r .used ≤ 61440 ⌝ }
+    requires { ⌜ (run .used ≤ fullFrom) × (length (now text) ≡ bufferRoom) ⌝ }
+    ensures { λ r. ⌜ r .used ≤ fullFrom ⌝ }
 {
     let machine = run.machine;
     let used = run.used;
@@ -74,7 +92,7 @@ fn step(
         well: run.well,
         more: run.more,
     };
-    if after.used <= 61440 {
+    if after.used <= FULL {
         return after;
     }
     flush(after, text)
@@ -84,15 +102,15 @@ fn step(
 fn part(
     run: Run,
     input: &[u8],
-    planes: &mut [u64; 7168],
-    pixels: &mut [u64; 512],
-    log: &mut [u64; 64],
-    scratch: &mut [u64; 1536],
-    values: &mut [u16; 512],
-    mattes: &mut [u8; 512],
+    planes: &mut Planes,
+    pixels: &mut Pixels,
+    log: &mut Log,
+    scratch: &mut Scratch,
+    values: &mut Values,
+    mattes: &mut Mattes,
     text: &mut [u8],
 ) -> Run
-    requires { ⌜ (run .used ≤ 61440) × (length (now text) ≡ 65536) ⌝ }
+    requires { ⌜ (run .used ≤ fullFrom) × (length (now text) ≡ bufferRoom) ⌝ }
     ensures { λ r. ⌜ r .used ≡ 0 ⌝ }
 {
     let mut now = run;
@@ -116,16 +134,16 @@ fn part(
 // failed.
 fn turn(
     run: Run,
-    planes: &mut [u64; 7168],
-    pixels: &mut [u64; 512],
-    log: &mut [u64; 64],
-    scratch: &mut [u64; 1536],
-    values: &mut [u16; 512],
-    mattes: &mut [u8; 512],
+    planes: &mut Planes,
+    pixels: &mut Pixels,
+    log: &mut Log,
+    scratch: &mut Scratch,
+    values: &mut Values,
+    mattes: &mut Mattes,
     input: &mut [u8],
     text: &mut [u8],
 ) -> Run
-    requires { ⌜ (run .used ≡ 0) × (length (now text) ≡ 65536) ⌝ }
+    requires { ⌜ (run .used ≡ 0) × (length (now text) ≡ bufferRoom) ⌝ }
     ensures { λ r. ⌜ r .used ≡ 0 ⌝ }
 {
     let got = libc::read(STDIN_FILENO, input);
@@ -169,16 +187,16 @@ fn going(machine: Machine, well: bool) -> bool {
 
 // Reads while the run goes on.
 fn serve(
-    planes: &mut [u64; 7168],
-    pixels: &mut [u64; 512],
-    log: &mut [u64; 64],
-    scratch: &mut [u64; 1536],
-    values: &mut [u16; 512],
-    mattes: &mut [u8; 512],
+    planes: &mut Planes,
+    pixels: &mut Pixels,
+    log: &mut Log,
+    scratch: &mut Scratch,
+    values: &mut Values,
+    mattes: &mut Mattes,
     input: &mut [u8],
     text: &mut [u8],
 ) -> Run
-    requires { ⌜ length (now text) ≡ 65536 ⌝ }
+    requires { ⌜ length (now text) ≡ bufferRoom ⌝ }
 {
     let machine = records::machine::start();
     let mut run = Run {
@@ -209,12 +227,12 @@ fn serve(
 }
 
 fn main() {
-    let mut planes = [0u64; 7168];
-    let mut pixels = [0u64; 512];
-    let mut log = [0u64; 64];
-    let mut scratch = [0u64; 1536];
-    let mut values = [0u16; 512];
-    let mut mattes = [0u8; 512];
+    let mut planes = [0u64; PLANE_CELLS];
+    let mut pixels = [0u64; CELLS];
+    let mut log = [0u64; LOG];
+    let mut scratch = [0u64; SCRATCH_CELLS];
+    let mut values = [0u16; CELLS];
+    let mut mattes = [0u8; CELLS];
     let mut input = io::large_buffer();
     let mut text = io::large_buffer();
     let run = serve(

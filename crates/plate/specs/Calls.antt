@@ -1,19 +1,21 @@
 -- The calls: what each answers, and what it leaves in every list that it is lent, for every input.
 use mathlib.Core.List.{List, [], _∷_, map}
-use Prim.Native.Nat.{ℕ, zero, suc, _+_, _*_, _-_, _%_, _^_, min}
+use Prim.Native.Nat.{ℕ, zero, suc, _+_, _-_, _%_, _^_, min}
 use lib.ListN.{getD, set, length, replicate}
+use Rattle.kernels.specs.Fixed.{planesEach}
 use Rattle.kernels.specs.Choice.{within}
 use Rattle.kernels.specs.Sum.{Planes, finish}
 use Rattle.kernels.specs.declared.shape.Shape.{Shape as ShapeOf}
-use Rattle.kernels.specs.declared.shape.ShapeRead.{ShapeRead}
-use Rattle.kernels.specs.declared.shape.ShapeRead.the-variants.{Known, Unknown}
-use Rattle.kernels.specs.Shape.{shapeOf, countOf, topUnder}
+use Rattle.kernels.specs.Shape.{shapeOf, topUnder}
 use Rattle.kernels.specs.declared.lens.Lens.{Lens as LensOf}
 use Rattle.kernels.specs.Lens.{blur}
 use Rattle.kernels.specs.Rounding.{shownValue, shownMatte}
-use Rattle.plate.specs.Layout.{Size, wide, high, cell, places, columnOf, rowOf}
-use Rattle.plate.specs.Word.{Pixel, empty, wordOf, Unpacked, Whole, Broken, readWord, EntryRead, Logged, Unreadable, readEntry}
-use Rattle.plate.specs.Refusal.{State, Answer, Refusal, StoredWord, Outcome, Accepted, Refused, sizeOf, stateOf, Lent, lent, Ask, Inputs, Views, views, sizedAs, openCheck, putCheck, undoCheck, fillCheck, showCheck}
+use Rattle.plate.specs.Layout.{Size, sizeFrom, wide, high, cell, places, columnOf, rowOf}
+use Rattle.plate.specs.Lent.{State, stateOf, Lent, lent, sizedAs, Ask, Inputs, Views, views}
+use Rattle.plate.specs.Word.{Pixel, wordOf, loggedAs}
+use Rattle.plate.specs.Kernel.{markCount}
+use Rattle.plate.specs.Refusal.{Answer, Refusal, Outcome, Accepted, Refused, openCheck, fillCheck, showCheck}
+use Rattle.plate.specs.Change.{Change, ChangeRead, ToChange, NoChange, knownShape, putRead, undoRead}
 use Rattle.plate.specs.Marks.{exchanged, layGrid}
 
 -- what a call answers, and what it leaves of planes, pixels and log
@@ -45,66 +47,37 @@ unfoldable pub openBy : Outcome → Size → Lent → Left
 openBy Accepted z l =
     left (answerOf Accepted 0 (stateOf z 0)) (zeros (length (l .planes))) (zeros (length (l .pixels))) (zeros (length (l .log)))
 -- "(all zero from open)"
-openBy (Refused f) z l = refused f (record { width = 0; height = 0; reach = 0; count = 0 }) l
+openBy (Refused f) z l = refused f (stateOf (sizeFrom 0 0 0) 0) l
 
 unfoldable pub openCall : Size → Lent → Left
 openCall z l = openBy (openCheck z (sizedAs l)) z l
 
--- PUT
-abbrev pub askedPlace : Size → Ask → ℕ
-askedPlace z a = a .y * z .width + a .x
+-- PUT AND UNDO
+-- The old pixel's marks are taken off, the new one's laid, and its word is stored. They report "the table's marks of the old
+-- shape plus those of the new"; the count that is handed back and the log that is left are each call's own.
+unfoldable pub changed : Change → State → ℕ → List ℕ → Lent → Left
+changed c s count log l =
+    left (answerOf Accepted (markCount (c .old) + markCount (c .new)) (stateOf (s .size) count))
+    (exchanged (s .size) (c .place) (c .old) (c .new) (l .planes))
+    (set (l .pixels) (c .place) (wordOf (c .new)))
+    log
 
--- the pixel that an accepted put asks for; a put with no shape is never accepted
-abbrev pub knownShape : ShapeRead → ShapeOf
-knownShape (Known s) = s
-knownShape Unknown = empty .shape
-
-abbrev pub askedPixel : Ask → Pixel
-askedPixel a = record { value = a .value; opacity = a .opacity; shape = knownShape (shapeOf (a .shape)); radius = a .radius }
-
--- "Put logs the old word in the entry at the log count and raises the count by one, takes its marks off, sets the new." It
--- reports "the table's marks of the old shape plus those of the new".
-unfoldable pub putOver : Unpacked → State → Ask → Lent → Left
-putOver Broken s a l = refused StoredWord s l
-putOver (Whole old) s a l =
-    let z = sizeOf s in
-    let i = askedPlace z a in
-    let new = askedPixel a in
-    left (answerOf Accepted (countOf (old .shape) + countOf (new .shape)) (stateOf z (s .count + 1)))
-    (exchanged z i old new (l .planes))
-    (set (l .pixels) i (wordOf new))
-    (set (l .log) (s .count) (getD (l .pixels) i 0 + 2 ^ 32 * i))
-
--- "For 10, put reads the word at its place"
-unfoldable pub putBy : Outcome → State → Ask → Lent → Left
-putBy (Refused f) s a l = refused f s l
-putBy Accepted s a l = putOver (readWord (s .reach) (getD (l .pixels) (askedPlace (sizeOf s) a) 0)) s a l
+-- "Put logs the old word in the entry at the log count and raises the count by one, takes its marks off, sets the new."
+unfoldable pub putBy : ChangeRead → State → Lent → Left
+putBy (NoChange f) s l = refused f s l
+putBy (ToChange c) s l =
+    changed c s (s .count + 1) (set (l .log) (s .count) (loggedAs (getD (l .pixels) (c .place) 0) (c .place))) l
 
 unfoldable pub putCall : State → Ask → Lent → Left
-putCall s a l = putBy (putCheck s a (sizedAs l)) s a l
+putCall s a l = putBy (putRead s a (sizedAs l) (l .pixels)) s l
 
--- UNDO
 -- "Undo restores the last logged word, marks too, zeroes that entry and lowers the count by one."
-unfoldable pub undoOver : ℕ → Pixel → Unpacked → State → Lent → Left
-undoOver i old Broken s l = refused StoredWord s l
-undoOver i old (Whole now) s l =
-    let z = sizeOf s in
-    left (answerOf Accepted (countOf (now .shape) + countOf (old .shape)) (stateOf z (s .count - 1)))
-    (exchanged z i now old (l .planes))
-    (set (l .pixels) i (wordOf old))
-    (set (l .log) (s .count - 1) 0)
-
--- "For 10, .. undo the last entry and the word at that entry's place"
-unfoldable pub undoEntry : EntryRead → State → Lent → Left
-undoEntry Unreadable s l = refused StoredWord s l
-undoEntry (Logged e) s l = undoOver (e .place) (e .pixel) (readWord (s .reach) (getD (l .pixels) (e .place) 0)) s l
-
-unfoldable pub undoBy : Outcome → State → Lent → Left
-undoBy (Refused f) s l = refused f s l
-undoBy Accepted s l = undoEntry (readEntry (sizeOf s) (getD (l .log) (s .count - 1) 0)) s l
+unfoldable pub undoBy : ChangeRead → State → Lent → Left
+undoBy (NoChange f) s l = refused f s l
+undoBy (ToChange c) s l = changed c s (s .count - 1) (set (l .log) (s .count - 1) 0) l
 
 unfoldable pub undoCall : State → Lent → Left
-undoCall s l = undoBy (undoCheck s (sizedAs l)) s l
+undoCall s l = undoBy (undoRead s (sizedAs l) (l .pixels) (l .log)) s l
 
 -- FILL
 -- "every pixel gets its value, its opacity, the one shape and the radius from its depth", "then at most the shape's top under R"
@@ -121,7 +94,7 @@ filled z l s f i =
 unfoldable pub fillBy : Outcome → State → LensOf → ℕ → Inputs → Lent → Left
 fillBy (Refused g) s o n f l = refused g s l
 fillBy Accepted s o n f l =
-    let z = sizeOf s in
+    let z = s .size in
     let pixel = filled z o (knownShape (shapeOf n)) f in
     left (answerOf Accepted 0 (stateOf z 0))
     (layGrid z pixel (zeros (length (l .planes))) (places z))
@@ -132,12 +105,12 @@ unfoldable pub fillCall : State → LensOf → ℕ → Inputs → Lent → Left
 fillCall s o n f l = fillBy (fillCheck s o n f (sizedAs l)) s o n f l
 
 -- SHOW
--- seven of the planes, from plane p on, 0 outside
+-- a picture's planes, from plane p on, 0 outside
 unfoldable pub stored : Size → List ℕ → ℕ → Planes
 stored z planes p d x y =
     within (suc x) (wide z) (within (suc y) (high z) (getD planes (cell z (p + d) x y) 0))
 
--- the finished sum at a place, wrapped: light from plane 0 on, matte from plane 7 on
+-- the finished sum at a place, wrapped: light's from plane 0 on, matte's from the first plane after light's
 unfoldable pub sumAt : Size → List ℕ → ℕ → ℕ → ℕ
 sumAt z planes p i = finish (stored z planes p) (columnOf z i) (rowOf z i) % 2 ^ 64
 
@@ -153,11 +126,11 @@ shown a scratch values mattes = record { answer = a; seen = views scratch values
 unfoldable pub showBy : Outcome → State → List ℕ → Views → Shown
 showBy (Refused f) s planes v = record { answer = answerOf (Refused f) 0 s; seen = v }
 showBy Accepted s planes v =
-    let z = sizeOf s in
+    let z = s .size in
     shown (answerOf Accepted 0 s)
     (zeros (length (v .scratch)))
-    (listTo (λ i. shownValue (sumAt z planes 0 i) (sumAt z planes 7 i)) (places z))
-    (listTo (λ i. shownMatte (sumAt z planes 7 i)) (places z))
+    (listTo (λ i. shownValue (sumAt z planes 0 i) (sumAt z planes planesEach i)) (places z))
+    (listTo (λ i. shownMatte (sumAt z planes planesEach i)) (places z))
 
 unfoldable pub showCall : State → List ℕ → Views → Shown
 showCall s planes v =

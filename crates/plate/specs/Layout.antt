@@ -1,18 +1,19 @@
 -- Sizes of a plate, and where its cells lie.
 use Prim.Native.Nat.{ℕ, _+_, _*_, _/_, _%_}
-
+use Rattle.kernels.specs.Fixed.{margin}
+use Rattle.plate.specs.Fixed.{border}
 -- "A plate has width W, height H and reach R"
-pub record Size : Type 0 where
-  pub width : ℕ
-  pub height : ℕ
-  pub reach : ℕ
+pub use Rattle.plate.specs.declared.size.Size.{Size}
+
+abbrev pub sizeFrom : ℕ → ℕ → ℕ → Size
+sizeFrom width height reach = record { width = width; height = height; reach = reach }
 
 -- "A padded plane has (W + 2R + 6) × (H + 2R + 6) cells .. call that count P."
 abbrev pub wide : Size → ℕ
-wide z = z .width + 2 * z .reach + 6
+wide z = z .width + 2 * z .reach + border
 
 abbrev pub high : Size → ℕ
-high z = z .height + 2 * z .reach + 6
+high z = z .height + 2 * z .reach + border
 
 abbrev pub padded : Size → ℕ
 padded z = wide z * high z
@@ -27,7 +28,7 @@ places z = z .width * z .height
 
 -- "the image starting at column and row R + 3": a place's column and row in a padded plane
 abbrev pub columnOf : Size → ℕ → ℕ
-columnOf z i = i % z .width + z .reach + 3
+columnOf z i = i % z .width + z .reach + margin
 
 abbrev pub rowOf : Size → ℕ → ℕ
-rowOf z i = i / z .width + z .reach + 3
+rowOf z i = i / z .width + z .reach + margin

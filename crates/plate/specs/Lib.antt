@@ -1,11 +1,13 @@
+pub mod Fixed
 pub mod Layout
+pub mod Lent
 pub mod Word
+pub mod Kernel
 pub mod Refusal
+pub mod Change
 pub mod Marks
-pub mod Laying
 pub mod Calls
-pub mod Filling
-pub mod Passes
 pub mod Plain
 pub mod Notebook
 pub mod Lists
+pub mod code

@@ -4,9 +4,11 @@ use mathlib.Core.List.{List, [], _∷_, map}
 use Prim.Native.Nat.{ℕ, _*_, _<_}
 use lib.ListN.{getD, length}
 use Rattle.kernels.specs.declared.lens.Lens.{Lens as LensOf}
+use Rattle.plate.specs.Fixed.{planesInAll}
 use Rattle.plate.specs.Layout.{Size, padded}
 use Rattle.plate.specs.Word.{wordOf}
-use Rattle.plate.specs.Refusal.{State, Outcome, Accepted, Refused, outcomeNumber, sizeOf, Lent, sizedAs, openCheck, ask, inputs, Views}
+use Rattle.plate.specs.Lent.{State, Lent, sizedAs, ask, inputs, Views}
+use Rattle.plate.specs.Refusal.{Outcome, Accepted, Refused, outcomeNumber, openCheck}
 use Rattle.plate.specs.Calls.{Left, Shown, openCall, putCall, undoCall, fillCall, showCall}
 use Rattle.plate.specs.Plain.{gridCell}
 use Rattle.plate.specs.Notebook.{Book, openBook, both, Report, plain, Turn, bookPut, bookUndo, bookFill, bookShow, logOf}
@@ -86,9 +88,9 @@ bookAfter b (c ∷ cs) = bookAfter (bookStep b c .book) cs
 -- "after the list, every cell of the planes with the marks of the grid, every stored word with the word of the grid's pixel, the
 -- log with the pile's pairs as entries .., the log count with the pile's height"
 pub record Holds (p : Plate) (b : Book) : Type 0 where
-  pub sizes : sizeOf (p .state) ≡ b .size
-  pub cells : length (p .kept .planes) ≡ 14 * padded (b .size)
-  pub each-cell : (k : ℕ) → k < 14 * padded (b .size) → getD (p .kept .planes) k 0 ≡ gridCell (b .size) (b .grid) k
+  pub sizes : p .state .size ≡ b .size
+  pub cells : length (p .kept .planes) ≡ planesInAll * padded (b .size)
+  pub each-cell : (k : ℕ) → k < planesInAll * padded (b .size) → getD (p .kept .planes) k 0 ≡ gridCell (b .size) (b .grid) k
   pub words : p .kept .pixels ≡ map wordOf (b .grid)
   pub entries : p .kept .log ≡ logOf (b .room) (b .pile)
   pub count : p .state .count ≡ length (b .pile)

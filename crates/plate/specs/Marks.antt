@@ -1,25 +1,27 @@
--- The marks of pixels in the fourteen planes.
+-- The marks of pixels in the planes.
 use mathlib.Core.List.{List, [], _∷_}
 use Prim.Native.Nat.{ℕ, zero, suc, _+_, _*_, _%_, _^_}
 use lib.ListN.{getD, set}
 use Rattle.kernels.specs.Choice.{same}
-use Rattle.kernels.specs.Mark.{Mark, mark, minus, marks, scaled}
+use Rattle.kernels.specs.Fixed.{planesEach}
+use Rattle.kernels.specs.Mark.{Mark, mark, minus, scaled}
 use Rattle.plate.specs.Layout.{Size, cell, columnOf, rowOf}
 use Rattle.plate.specs.Word.{Pixel}
+use Rattle.plate.specs.Kernel.{kernelOf}
 
 -- "A mark is worth its sign or factor times a × s, and in light times v as well": a kernel's marks, each in light and then in
--- matte, seven planes on
+-- matte, as many planes on as a picture has
 unfoldable pub inBoth : ℕ → ℕ → List Mark → List Mark
 inBoth light matte [] = []
 inBoth light matte (m ∷ ms) =
     mark (m .plane) (m .column) (m .row) (light * m .coefficient)
-    ∷ mark (7 + m .plane) (m .column) (m .row) (matte * m .coefficient)
+    ∷ mark (planesEach + m .plane) (m .column) (m .row) (matte * m .coefficient)
     ∷ inBoth light matte ms
 
 -- the marks of the pixel at a place
 unfoldable pub pixelMarks : Size → ℕ → Pixel → List Mark
 pixelMarks z i p =
-    inBoth (p .value * p .opacity) (p .opacity) (marks (p .shape) (p .radius) (columnOf z i) (rowOf z i))
+    inBoth (p .value * p .opacity) (p .opacity) (kernelOf p (columnOf z i) (rowOf z i))
 
 abbrev pub cellOf : Size → Mark → ℕ
 cellOf z m = cell z (m .plane) (m .column) (m .row)

@@ -2,12 +2,15 @@
 use mathlib.Core.List.{List, [], _∷_, _++_}
 use Prim.Native.Nat.{ℕ, _+_, _-_}
 use lib.ListN.{set, length, replicate}
-use Rattle.kernels.specs.Shape.{shapeOf, countOf}
+use Rattle.kernels.specs.Shape.{shapeOf}
 use Rattle.kernels.specs.declared.lens.Lens.{Lens as LensOf}
 use Rattle.plate.specs.Layout.{Size, places}
 use Rattle.plate.specs.Word.{Pixel, empty, Entry, entryOf}
-use Rattle.plate.specs.Refusal.{Outcome, Accepted, Refused, LogEmpty, outcomeNumber, Ask, Inputs, Views, askCheck, inputsCheck, layerCheck, viewsCheck}
-use Rattle.plate.specs.Calls.{askedPlace, askedPixel, knownShape, filled, listTo, zeros}
+use Rattle.plate.specs.Kernel.{markCount}
+use Rattle.plate.specs.Refusal.{Outcome, Accepted, Refused, LogEmpty, outcomeNumber, askCheck, inputsCheck, layerCheck, viewsCheck}
+use Rattle.plate.specs.Lent.{Ask, Inputs, Views}
+use Rattle.plate.specs.Change.{askedPlace, askedPixel, knownShape}
+use Rattle.plate.specs.Calls.{filled, listTo, zeros}
 use Rattle.plate.specs.Plain.{pixelAt, plainValues, plainMattes}
 
 -- room is the log's length; the top of the pile comes first
@@ -57,7 +60,7 @@ bookPutBy Accepted b a =
     let i = askedPlace (b .size) a in
     let old = pixelAt (b .grid) i in
     let new = askedPixel a in
-    turn (plain 0 (countOf (old .shape) + countOf (new .shape)))
+    turn (plain 0 (markCount old + markCount new))
     (bookOf (b .size) (b .room) (set (b .grid) i new) (record { place = i; pixel = old } ∷ b .pile))
 
 -- "the count in 8 and 9 is the height of its pile"
@@ -68,7 +71,7 @@ bookPut b a = bookPutBy (askCheck (b .size) (length (b .pile)) (b .room) a) b a
 unfoldable pub bookUndoOf : Size → ℕ → List Pixel → List Entry → Turn
 bookUndoOf z room grid [] = turnedDown (Refused LogEmpty) (bookOf z room grid [])
 bookUndoOf z room grid (e ∷ pile) =
-    turn (plain 0 (countOf (pixelAt grid (e .place) .shape) + countOf (e .pixel .shape)))
+    turn (plain 0 (markCount (pixelAt grid (e .place)) + markCount (e .pixel)))
     (bookOf z room (set grid (e .place) (e .pixel)) pile)
 
 unfoldable pub bookUndo : Book → Turn

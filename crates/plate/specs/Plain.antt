@@ -3,10 +3,10 @@ use mathlib.Core.List.{List}
 use Prim.Native.Nat.{ℕ, _*_, _/_, _%_, _^_}
 use lib.ListN.{getD}
 use Rattle.kernels.specs.Sum.{sum, dist}
-use Rattle.kernels.specs.Tap.{weight}
 use Rattle.kernels.specs.Rounding.{shownValue, shownMatte}
 use Rattle.plate.specs.Layout.{Size, places}
 use Rattle.plate.specs.Word.{Pixel, empty}
+use Rattle.plate.specs.Kernel.{weightOf}
 use Rattle.plate.specs.Marks.{pixelMarks, total}
 use Rattle.plate.specs.Calls.{listTo}
 
@@ -26,7 +26,7 @@ plainSum z grid worth i =
     sum
     (λ j.
     let p = pixelAt grid j in
-    worth p * weight (p .shape) (p .radius) (dist (i % z .width) (j % z .width)) (dist (i / z .width) (j / z .width)))
+    worth p * weightOf p (dist (i % z .width) (j % z .width)) (dist (i / z .width) (j / z .width)))
     (places z)
 
 -- "rounded as above"

@@ -11,8 +11,10 @@ use Rattle.kernels.specs.declared.shape.ShapeRead.the-variants.{Known, Unknown}
 use Rattle.kernels.specs.Shape.{shapeOf, topUnder}
 use Rattle.kernels.specs.declared.lens.Lens.{Lens as LensOf}
 use Rattle.kernels.specs.Lens.{lawfulLens}
+use Rattle.kernels.specs.Fixed.{valueTop, depthTop}
+use Rattle.plate.specs.Fixed.{planesInAll, scratchPlanes, sideTop, placesTop, reachTop, logTop}
 use Rattle.plate.specs.Layout.{Size, padded, places}
-pub use Rattle.plate.specs.declared.state.State.{State}
+use Rattle.plate.specs.Lent.{State, Sized, Ask, Inputs}
 pub use Rattle.plate.specs.declared.state.Answer.{Answer}
 pub use Rattle.plate.specs.declared.state.Refusal.{Refusal}
 pub use Rattle.plate.specs.declared.state.Refusal.the-variants.{Sizes, Lengths, LogCount, Place, Value, Shape, Radius, LogFull, LogEmpty, StoredWord, Lens, Depth}
@@ -43,73 +45,16 @@ unfoldable pub refuseIf : Bool → Refusal → Outcome → Outcome
 refuseIf true f next = Refused f
 refuseIf false f next = next
 
--- WHAT CALLS ARE GIVEN AND LENT
-abbrev pub sizeOf : State → Size
-sizeOf s = record { width = s .width; height = s .height; reach = s .reach }
-
-abbrev pub stateOf : Size → ℕ → State
-stateOf z n = record { width = z .width; height = z .height; reach = z .reach; count = n }
-
-pub record Lent : Type 0 where
-  pub planes : List ℕ
-  pub pixels : List ℕ
-  pub log : List ℕ
-
-abbrev pub lent : List ℕ → List ℕ → List ℕ → Lent
-lent planes pixels log = record { planes = planes; pixels = pixels; log = log }
-
--- the lengths of what is lent
-pub record Sized : Type 0 where
-  pub planes : ℕ
-  pub pixels : ℕ
-  pub log : ℕ
-
-abbrev pub sized : ℕ → ℕ → ℕ → Sized
-sized planes pixels log = record { planes = planes; pixels = pixels; log = log }
-
-abbrev pub sizedAs : Lent → Sized
-sizedAs l = sized (length (l .planes)) (length (l .pixels)) (length (l .log))
-
--- a put's arguments
-pub record Ask : Type 0 where
-  pub x : ℕ
-  pub y : ℕ
-  pub value : ℕ
-  pub opacity : ℕ
-  pub shape : ℕ
-  pub radius : ℕ
-
-abbrev pub ask : ℕ → ℕ → ℕ → ℕ → ℕ → ℕ → Ask
-ask x y v a s r = record { x = x; y = y; value = v; opacity = a; shape = s; radius = r }
-
--- fill's three inputs
-pub record Inputs : Type 0 where
-  pub values : List ℕ
-  pub opacities : List ℕ
-  pub depths : List ℕ
-
-abbrev pub inputs : List ℕ → List ℕ → List ℕ → Inputs
-inputs values opacities depths = record { values = values; opacities = opacities; depths = depths }
-
--- show's scratch and pictures
-pub record Views : Type 0 where
-  pub scratch : List ℕ
-  pub values : List ℕ
-  pub mattes : List ℕ
-
-abbrev pub views : List ℕ → List ℕ → List ℕ → Views
-views scratch values mattes = record { scratch = scratch; values = values; mattes = mattes }
-
 -- THE TABLE'S CONDITIONS
 -- 1: "W and H from 1 to 4,096, W × H at most 2,097,152 .., R from 0 to 64"
 unfoldable pub sizesCheck : Size → Outcome → Outcome
 sizesCheck z next =
     refuseIf (ltb (z .width) 1) Sizes
-    (refuseIf (ltb 4096 (z .width)) Sizes
+    (refuseIf (ltb sideTop (z .width)) Sizes
     (refuseIf (ltb (z .height) 1) Sizes
-    (refuseIf (ltb 4096 (z .height)) Sizes
-    (refuseIf (ltb 2097152 (z .width * z .height)) Sizes
-    (refuseIf (ltb 64 (z .reach)) Sizes next)))))
+    (refuseIf (ltb sideTop (z .height)) Sizes
+    (refuseIf (ltb placesTop (z .width * z .height)) Sizes
+    (refuseIf (ltb reachTop (z .reach)) Sizes next)))))
 
 -- 2: "a lent length is wrong"
 abbrev pub lengthCheck : ℕ → ℕ → Outcome → Outcome
@@ -118,8 +63,8 @@ lengthCheck n want next = refuseIf (not (eqb n want)) Lengths next
 -- "planes 14 × P, pixels W × H words .., log 0 to 65,535 entries"
 unfoldable pub lentCheck : Size → Sized → Outcome → Outcome
 lentCheck z n next =
-    lengthCheck (n .planes) (14 * padded z)
-    (lengthCheck (n .pixels) (places z) (refuseIf (ltb 65535 (n .log)) Lengths next))
+    lengthCheck (n .planes) (planesInAll * padded z)
+    (lengthCheck (n .pixels) (places z) (refuseIf (ltb logTop (n .log)) Lengths next))
 
 -- 3: "log count above log length"
 abbrev pub countCheck : ℕ → ℕ → Outcome → Outcome
@@ -131,7 +76,7 @@ placeCheck z a next = refuseIf (leb (z .width) (a .x)) Place (refuseIf (leb (z .
 
 -- 5: "v above 4,095"
 abbrev pub valueCheck : ℕ → Outcome → Outcome
-valueCheck v next = refuseIf (ltb 4095 v) Value next
+valueCheck v next = refuseIf (ltb valueTop v) Value next
 
 -- 6: "shape above 5", and 7: "r above top under R"
 unfoldable pub kernelCheck : ℕ → ShapeRead → ℕ → Outcome → Outcome
@@ -146,10 +91,14 @@ fullCheck n room next = refuseIf (eqb n room) LogFull next
 abbrev pub emptyCheck : ℕ → Outcome → Outcome
 emptyCheck n next = refuseIf (eqb n 0) LogEmpty next
 
--- whether a number of the list is above the bound
-unfoldable pub anyAbove : ℕ → List ℕ → Bool
-anyAbove b [] = false
-anyAbove b (n ∷ ns) = pick (ltb b n) true (anyAbove b ns)
+-- whether a number of the list passes the test
+unfoldable pub anyOf : (ℕ → Bool) → List ℕ → Bool
+anyOf test [] = false
+anyOf test (n ∷ ns) = pick (test n) true (anyOf test ns)
+
+-- whether one is above the bound
+abbrev pub anyAbove : ℕ → List ℕ → Bool
+anyAbove b ns = anyOf (ltb b) ns
 
 unfoldable pub shapeCheck : ShapeRead → Outcome → Outcome
 shapeCheck Unknown next = Refused Shape
@@ -161,7 +110,7 @@ lensCheck l next = refuseIf (not (lawfulLens l)) Lens next
 
 -- 12: "a depth above 10,000,000"
 abbrev pub depthsCheck : List ℕ → Outcome → Outcome
-depthsCheck depths next = refuseIf (anyAbove 10000000 depths) Depth next
+depthsCheck depths next = refuseIf (anyAbove depthTop depths) Depth next
 
 -- THE CHECKS OF EACH CALL, but for 10, which reads stored words
 -- 4 to 8, with the count and the log's length
@@ -178,38 +127,42 @@ inputsCheck z values opacities depths next =
 -- 5, 6, 11 and 12
 unfoldable pub layerCheck : LensOf → ℕ → Inputs → Outcome
 layerCheck l s f =
-    refuseIf (anyAbove 4095 (f .values)) Value
+    refuseIf (anyAbove valueTop (f .values)) Value
     (shapeCheck (shapeOf s) (lensCheck l (depthsCheck (f .depths) Accepted)))
 
 -- 2 for scratch, "3 × P", and "the two pictures .. W × H each"
 unfoldable pub viewsCheck : Size → ℕ → ℕ → ℕ → Outcome
 viewsCheck z scratch values mattes =
-    lengthCheck scratch (3 * padded z) (lengthCheck values (places z) (lengthCheck mattes (places z) Accepted))
+    lengthCheck scratch (scratchPlanes * padded z) (lengthCheck values (places z) (lengthCheck mattes (places z) Accepted))
 
 -- open: 1 2
 unfoldable pub openCheck : Size → Sized → Outcome
 openCheck z n = sizesCheck z (lentCheck z n Accepted)
 
+-- 1 2 3, first of put and undo
+unfoldable pub plateCheck : State → Sized → Outcome → Outcome
+plateCheck s n next = sizesCheck (s .size) (lentCheck (s .size) n (countCheck (s .count) (n .log) next))
+
 -- put: 1 2 3 4 5 6 7 8
 unfoldable pub putCheck : State → Ask → Sized → Outcome
-putCheck s a n =
-    sizesCheck (sizeOf s)
-    (lentCheck (sizeOf s) n (countCheck (s .count) (n .log) (askCheck (sizeOf s) (s .count) (n .log) a)))
+putCheck s a n = plateCheck s n (askCheck (s .size) (s .count) (n .log) a)
 
 -- undo: 1 2 3 9
 unfoldable pub undoCheck : State → Sized → Outcome
-undoCheck s n =
-    sizesCheck (sizeOf s) (lentCheck (sizeOf s) n (countCheck (s .count) (n .log) (emptyCheck (s .count) Accepted)))
+undoCheck s n = plateCheck s n (emptyCheck (s .count) Accepted)
 
--- fill: 1 2 3 5 6 11 12
+-- fill: 1 2 3, and what its inputs hold: 5 6 11 12
+unfoldable pub fillFirst : State → Inputs → Sized → Outcome → Outcome
+fillFirst s f n next =
+    sizesCheck (s .size)
+    (lentCheck (s .size) n
+    (inputsCheck (s .size) (length (f .values)) (length (f .opacities)) (length (f .depths))
+    (countCheck (s .count) (n .log) next)))
+
 unfoldable pub fillCheck : State → LensOf → ℕ → Inputs → Sized → Outcome
-fillCheck s o k f n =
-    sizesCheck (sizeOf s)
-    (lentCheck (sizeOf s) n
-    (inputsCheck (sizeOf s) (length (f .values)) (length (f .opacities)) (length (f .depths))
-    (countCheck (s .count) (n .log) (layerCheck o k f))))
+fillCheck s o k f n = fillFirst s f n (layerCheck o k f)
 
 -- show: 1 2
 unfoldable pub showCheck : State → ℕ → ℕ → ℕ → ℕ → Outcome
 showCheck s planes scratch values mattes =
-    sizesCheck (sizeOf s) (lengthCheck planes (14 * padded (sizeOf s)) (viewsCheck (sizeOf s) scratch values mattes))
+    sizesCheck (s .size) (lengthCheck planes (planesInAll * padded (s .size)) (viewsCheck (s .size) scratch values mattes))

@@ -6,6 +6,7 @@ use Rattle.kernels.specs.declared.shape.Shape.the-variants.{Box}
 use Rattle.kernels.specs.declared.shape.ShapeRead.{ShapeRead}
 use Rattle.kernels.specs.declared.shape.ShapeRead.the-variants.{Known, Unknown}
 use Rattle.kernels.specs.Shape.{numberOf, shapeOf, topUnder}
+use Rattle.plate.specs.Fixed.{wordBits}
 use Rattle.plate.specs.Layout.{Size, places}
 pub use Rattle.plate.specs.declared.word.Pixel.{Pixel}
 pub use Rattle.plate.specs.declared.word.Unpacked.{Unpacked}
@@ -27,14 +28,17 @@ abbrev pub pixelIn : ℕ → ℕ → ShapeRead → Unpacked
 pixelIn R w Unknown = Broken
 pixelIn R w (Known s) =
     pick (ltb (topUnder s R) (w / 2 ^ 24 % 256)) Broken
-    (Whole (record { value = w % 4096; opacity = w / 2 ^ 12 % 256; shape = s; radius = w / 2 ^ 24 % 256 }))
+    (Whole (record { value = w % 2 ^ 12; opacity = w / 2 ^ 12 % 256; shape = s; radius = w / 2 ^ 24 % 256 }))
 
 unfoldable pub readWord : ℕ → ℕ → Unpacked
-readWord R w = pick (leb (2 ^ 32) w) Broken (pixelIn R w (shapeOf (w / 2 ^ 20 % 16)))
+readWord R w = pick (leb (2 ^ wordBits) w) Broken (pixelIn R w (shapeOf (w / 2 ^ 20 % 16)))
 
 -- "entries of 64 bits (word + 2^32 × place, ..)"
+abbrev pub loggedAs : ℕ → ℕ → ℕ
+loggedAs w i = w + 2 ^ wordBits * i
+
 abbrev pub entryOf : Entry → ℕ
-entryOf e = wordOf (e .pixel) + 2 ^ 32 * e .place
+entryOf e = loggedAs (wordOf (e .pixel)) (e .place)
 
 -- an entry of a plate: unreadable where its place breaks 4 or its word is broken
 abbrev pub entryIn : ℕ → Unpacked → EntryRead
@@ -42,4 +46,4 @@ entryIn i Broken = Unreadable
 entryIn i (Whole p) = Logged (record { place = i; pixel = p })
 
 unfoldable pub readEntry : Size → ℕ → EntryRead
-readEntry z e = pick (leb (places z) (e / 2 ^ 32)) Unreadable (entryIn (e / 2 ^ 32) (readWord (z .reach) (e % 2 ^ 32)))
+readEntry z e = pick (leb (places z) (e / 2 ^ wordBits)) Unreadable (entryIn (e / 2 ^ wordBits) (readWord (z .reach) (e % 2 ^ wordBits)))

@@ -1,169 +1,172 @@
 // What a call checks before it touches anything, by the table of refusals. Lengths come as numbers, and any number may come.
+use crate::fixed::LOG_TOP;
+use crate::fixed::PLACES_TOP;
+use crate::fixed::PLANES;
+use crate::fixed::REACH_TOP;
+use crate::fixed::SCRATCH_PLANES;
+use crate::fixed::SIDE_TOP;
+use crate::lent::Ask;
+use crate::lent::Sized;
+use crate::size::Size;
+use crate::size::frame_of;
 use crate::state::Outcome;
 use crate::state::Refusal;
 use crate::state::State;
 use kernels::ShapeRead;
+use kernels::fixed::VALUE_TOP;
 ghost use mathlib.Core.Path.{_≡_};
-ghost use Prim.Native.Nat.{ℕ, _*_, _≤_};
+ghost use Prim.Native.Nat.{_*_};
+ghost use Rattle.plate.specs.Fixed.{planesInAll};
 ghost use Rattle.plate.specs.Layout.{padded};
-ghost use Rattle.plate.specs.Refusal.{Accepted, sizeOf, sized, ask, sizesCheck, lengthCheck, lentCheck, countCheck, askCheck, inputsCheck, viewsCheck, openCheck, putCheck, undoCheck, showCheck};
+ghost use Rattle.plate.specs.Refusal.{Accepted, sizesCheck, lengthCheck, lentCheck, plateCheck, askCheck, inputsCheck, viewsCheck, openCheck, putCheck, undoCheck, showCheck};
+ghost use Rattle.plate.specs.code.Bounds.{LawfulSize};
+ghost use Rattle.plate.specs.code.Filling.{fillLengths};
 
 // 1: whether a plate can have these sizes.
-fn check_sizes(width: usize, height: usize, reach: usize) -> Outcome
-    ensures { λ r. ⌜ r ≡ sizesCheck (record { width = width; height = height; reach = reach }) Accepted ⌝ }
+fn check_sizes(size: Size) -> Outcome
+    ensures { λ r. ⌜ r ≡ sizesCheck size Accepted ⌝ }
 {
+    let width = size.width;
+    let height = size.height;
     if width < 1 {
         return Outcome::Refused(Refusal::Sizes);
     }
-    if 4096 < width {
+    if SIDE_TOP < width {
         return Outcome::Refused(Refusal::Sizes);
     }
     if height < 1 {
         return Outcome::Refused(Refusal::Sizes);
     }
-    if 4096 < height {
+    if SIDE_TOP < height {
         return Outcome::Refused(Refusal::Sizes);
     }
-    if 2097152 < width * height {
+    if PLACES_TOP < width * height {
         return Outcome::Refused(Refusal::Sizes);
     }
-    if 64 < reach {
+    let reach = size.reach;
+    if REACH_TOP < reach {
         return Outcome::Refused(Refusal::Sizes);
     }
     Outcome::Accepted
 }
 
-// The cells of a padded plane. For sizes that a plate can have, fourteen such planes are far below 2^64.
-pub(crate) fn padded_cells(width: usize, height: usize, reach: usize) -> usize
-    requires { ⌜ (width ≤ 4096) × (height ≤ 4096) × (reach ≤ 64) ⌝ }
-    ensures { λ r. ⌜ r ≡ padded (record { width = width; height = height; reach = reach }) ⌝ }
-{
-    (width + 2 * reach + 6) * (height + 2 * reach + 6)
-}
-
 // 2: the lengths of planes, pixels and log.
-fn check_lent(
-    width: usize,
-    height: usize,
-    reach: usize,
-    planes: usize,
-    pixels: usize,
-    log: usize,
-) -> Outcome
-    requires { ⌜ (width ≤ 4096) × (height ≤ 4096) × (reach ≤ 64) ⌝ }
-    ensures { λ r. ⌜ r ≡ lentCheck (record { width = width; height = height; reach = reach }) (sized planes pixels log) Accepted ⌝ }
+fn check_lent(size: Size, lent: Sized) -> Outcome
+    requires { ⌜ LawfulSize size ⌝ }
+    ensures { λ r. ⌜ r ≡ lentCheck size lent Accepted ⌝ }
 {
-    let cells = padded_cells(width, height, reach);
-    if planes != 14 * cells {
+    let frame = frame_of(size);
+    let cells = frame.padded;
+    let places = frame.places;
+    let planes = lent.planes;
+    let pixels = lent.pixels;
+    let log = lent.log;
+    if planes != PLANES * cells {
         return Outcome::Refused(Refusal::Lengths);
     }
-    if pixels != width * height {
+    if pixels != places {
         return Outcome::Refused(Refusal::Lengths);
     }
-    if 65535 < log {
+    if LOG_TOP < log {
         return Outcome::Refused(Refusal::Lengths);
     }
     Outcome::Accepted
 }
 
 // 1 and 2, all that an open checks, and the first that put, undo and fill check.
-pub(crate) fn check_open(
-    width: usize,
-    height: usize,
-    reach: usize,
-    planes: usize,
-    pixels: usize,
-    log: usize,
-) -> Outcome
-    ensures { λ r. ⌜ r ≡ openCheck (record { width = width; height = height; reach = reach }) (sized planes pixels log) ⌝ }
+pub(crate) fn check_open(size: Size, lent: Sized) -> Outcome
+    ensures { λ r. ⌜ r ≡ openCheck size lent ⌝ }
 {
-    let sizes = check_sizes(width, height, reach);
+    let sizes = check_sizes(size);
     let Outcome::Accepted = sizes else {
         return sizes;
     };
-    check_lent(width, height, reach, planes, pixels, log)
+    check_lent(size, lent)
+}
+
+// 1 to 3, the first that put and undo check.
+fn check_plate(state: State, lent: Sized) -> Outcome
+    ensures { λ r. ⌜ r ≡ plateCheck state lent Accepted ⌝ }
+{
+    let size = state.size;
+    let plate = check_open(size, lent);
+    let Outcome::Accepted = plate else {
+        return plate;
+    };
+    let log = lent.log;
+    let count = state.count;
+    if log < count {
+        return Outcome::Refused(Refusal::LogCount);
+    }
+    Outcome::Accepted
 }
 
 // 4 to 8: the arguments of a put, whose opacity is always lawful.
-fn check_ask(
-    state: State,
-    x: usize,
-    y: usize,
-    value: u16,
-    shape: u8,
-    radius: u8,
-    log: usize,
-) -> Outcome
-    ensures { λ r. ⌜ ((opacity : ℕ) → r ≡ askCheck (sizeOf state) (state .count) log (ask x y value opacity shape radius)) ⌝ }
+fn check_ask(state: State, ask: Ask, log: usize) -> Outcome
+    ensures { λ r. ⌜ r ≡ askCheck (state .size) (state .count) log ask ⌝ }
 {
-    if state.width <= x {
+    let width = state.size.width;
+    let height = state.size.height;
+    let x = ask.x;
+    let y = ask.y;
+    let value = ask.value;
+    let radius = ask.radius;
+    let count = state.count;
+    if width <= x {
         return Outcome::Refused(Refusal::Place);
     }
-    if state.height <= y {
+    if height <= y {
         return Outcome::Refused(Refusal::Place);
     }
-    if 4095 < value {
+    if VALUE_TOP < value {
         return Outcome::Refused(Refusal::Value);
     }
-    let ShapeRead::Known(known) = kernels::shape::shape_of(shape) else {
+    let ShapeRead::Known(known) = kernels::shape::shape_of(ask.shape) else {
         return Outcome::Refused(Refusal::Shape);
     };
-    if kernels::shape::top_under(known, state.reach) < radius {
+    if kernels::shape::top_under(known, state.size.reach) < radius {
         return Outcome::Refused(Refusal::Radius);
     }
-    if state.count == log {
+    if count == log {
         return Outcome::Refused(Refusal::LogFull);
     }
     Outcome::Accepted
 }
 
 // All that a put checks but for the stored word.
-pub(crate) fn check_put(
-    state: State,
-    x: usize,
-    y: usize,
-    value: u16,
-    shape: u8,
-    radius: u8,
-    planes: usize,
-    pixels: usize,
-    log: usize,
-) -> Outcome
-    ensures { λ r. ⌜ ((opacity : ℕ) → r ≡ putCheck state (ask x y value opacity shape radius) (sized planes pixels log)) ⌝ }
+pub(crate) fn check_put(state: State, ask: Ask, lent: Sized) -> Outcome
+    ensures { λ r. ⌜ r ≡ putCheck state ask lent ⌝ }
 {
-    let plate = check_open(state.width, state.height, state.reach, planes, pixels, log);
+    let plate = check_plate(state, lent);
     let Outcome::Accepted = plate else {
         return plate;
     };
-    if log < state.count {
-        return Outcome::Refused(Refusal::LogCount);
-    }
-    check_ask(state, x, y, value, shape, radius, log)
+    check_ask(state, ask, lent.log)
 }
 
 // All that an undo checks but for the stored entry and word.
-pub(crate) fn check_undo(state: State, planes: usize, pixels: usize, log: usize) -> Outcome
-    ensures { λ r. ⌜ r ≡ undoCheck state (sized planes pixels log) ⌝ }
+pub(crate) fn check_undo(state: State, lent: Sized) -> Outcome
+    ensures { λ r. ⌜ r ≡ undoCheck state lent ⌝ }
 {
-    let plate = check_open(state.width, state.height, state.reach, planes, pixels, log);
+    let plate = check_plate(state, lent);
     let Outcome::Accepted = plate else {
         return plate;
     };
-    if log < state.count {
-        return Outcome::Refused(Refusal::LogCount);
-    }
-    if state.count == 0 {
+    let count = state.count;
+    if count == 0 {
         return Outcome::Refused(Refusal::LogEmpty);
     }
     Outcome::Accepted
 }
 
 // 2: the lengths of fill's three inputs.
-fn check_inputs(state: State, values: usize, opacities: usize, depths: usize) -> Outcome
-    requires { ⌜ (state .width ≤ 4096) × (state .height ≤ 4096) ⌝ }
-    ensures { λ r. ⌜ r ≡ inputsCheck (sizeOf state) values opacities depths Accepted ⌝ }
+fn check_inputs(size: Size, values: usize, opacities: usize, depths: usize) -> Outcome
+    requires { ⌜ LawfulSize size ⌝ }
+    ensures { λ r. ⌜ r ≡ inputsCheck size values opacities depths Accepted ⌝ }
 {
-    let places = state.width * state.height;
+    let width = size.width;
+    let height = size.height;
+    let places = width * height;
     if values != places {
         return Outcome::Refused(Refusal::Lengths);
     }
@@ -179,40 +182,42 @@ fn check_inputs(state: State, values: usize, opacities: usize, depths: usize) ->
 // 1 to 3: what a fill checks before it reads its inputs.
 pub(crate) fn check_fill(
     state: State,
-    planes: usize,
-    pixels: usize,
-    log: usize,
+    lent: Sized,
     values: usize,
     opacities: usize,
     depths: usize,
 ) -> Outcome
-    ensures { λ r. ⌜ r ≡ sizesCheck (sizeOf state) (lentCheck (sizeOf state) (sized planes pixels log) (inputsCheck (sizeOf state) values opacities depths (countCheck (state .count) log Accepted))) ⌝ }
+    ensures { λ r. ⌜ r ≡ fillLengths state lent values opacities depths ⌝ }
 {
-    let plate = check_open(state.width, state.height, state.reach, planes, pixels, log);
+    let size = state.size;
+    let plate = check_open(size, lent);
     let Outcome::Accepted = plate else {
         return plate;
     };
-    let inputs = check_inputs(state, values, opacities, depths);
+    let inputs = check_inputs(size, values, opacities, depths);
     let Outcome::Accepted = inputs else {
         return inputs;
     };
-    if log < state.count {
+    let log = lent.log;
+    let count = state.count;
+    if log < count {
         return Outcome::Refused(Refusal::LogCount);
     }
     Outcome::Accepted
 }
 
 // 2: the lengths of what a show is lent.
-fn check_views(state: State, planes: usize, scratch: usize, values: usize, mattes: usize) -> Outcome
-    requires { ⌜ (state .width ≤ 4096) × (state .height ≤ 4096) × (state .reach ≤ 64) ⌝ }
-    ensures { λ r. ⌜ r ≡ lengthCheck planes (14 * padded (sizeOf state)) (viewsCheck (sizeOf state) scratch values mattes) ⌝ }
+fn check_views(size: Size, planes: usize, scratch: usize, values: usize, mattes: usize) -> Outcome
+    requires { ⌜ LawfulSize size ⌝ }
+    ensures { λ r. ⌜ r ≡ lengthCheck planes (planesInAll * padded size) (viewsCheck size scratch values mattes) ⌝ }
 {
-    let cells = padded_cells(state.width, state.height, state.reach);
-    let places = state.width * state.height;
-    if planes != 14 * cells {
+    let frame = frame_of(size);
+    let cells = frame.padded;
+    let places = frame.places;
+    if planes != PLANES * cells {
         return Outcome::Refused(Refusal::Lengths);
     }
-    if scratch != 3 * cells {
+    if scratch != SCRATCH_PLANES * cells {
         return Outcome::Refused(Refusal::Lengths);
     }
     if values != places {
@@ -234,9 +239,10 @@ pub(crate) fn check_show(
 ) -> Outcome
     ensures { λ r. ⌜ r ≡ showCheck state planes scratch values mattes ⌝ }
 {
-    let sizes = check_sizes(state.width, state.height, state.reach);
+    let size = state.size;
+    let sizes = check_sizes(size);
     let Outcome::Accepted = sizes else {
         return sizes;
     };
-    check_views(state, planes, scratch, values, mattes)
+    check_views(size, planes, scratch, values, mattes)
 }

@@ -1,21 +1,27 @@
-// Lays the marks of kernels in the planes: each mark is one sum in a light plane and one in the matte plane, seven planes on.
-ghost use mathlib.Core.Path.{_≡_};
-ghost use Prim.Native.Nat.{ℕ, _+_, _*_, _<_, _≤_};
-ghost use lib.ListN.{length};
-ghost use Rattle.kernels.specs.declared.mark.Drawing.the-variants.{Grid, Two, Three};
-ghost use Rattle.kernels.specs.Tap.{shareUpTo};
-ghost use Rattle.kernels.specs.Mark.{minus, boxGrid, tapMarks, scaled};
-ghost use Rattle.kernels.specs.Drawing.{pieceMarks, twoPieces, threePieces, drawnMarks};
-ghost use Rattle.plate.specs.Layout.{columnOf, rowOf};
-ghost use Rattle.plate.specs.Refusal.{sizeOf};
-ghost use Rattle.plate.specs.Marks.{inBoth, pixelMarks, layAll};
-ghost use Rattle.plate.specs.Laying.{Worth, times, worthOf, frameOf, spot, layWorth, layDrawn, columnOfThree, columnOfFour, FewBoxes, Roomy, Placed};
-use crate::state::State;
+// Lays the marks of kernels in the planes: each mark is one sum in a light plane and one in the matte plane, as many planes on as
+// a picture has.
+use crate::size::Frame;
 use crate::word::Pixel;
 use kernels::Boxes;
 use kernels::Drawing;
 use kernels::Line;
 use kernels::Outline;
+use kernels::Share;
+use kernels::Table;
+use kernels::fixed::LEVEL;
+use kernels::fixed::MARGIN;
+use kernels::fixed::PLANES_EACH;
+ghost use mathlib.Core.Path.{_≡_};
+ghost use Prim.Native.Nat.{ℕ, _*_, _<_, _≤_};
+ghost use lib.ListN.{length};
+ghost use Rattle.kernels.specs.Fixed.{planesEach, margin};
+ghost use Rattle.kernels.specs.declared.mark.Drawing.the-variants.{Grid, Lines};
+ghost use Rattle.kernels.specs.Mark.{minus, boxGrid, scaled};
+ghost use Rattle.kernels.specs.Share.{shareTable};
+ghost use Rattle.kernels.specs.code.Drawing.{pieceMarks, linePieces, drawnMarks};
+ghost use Rattle.plate.specs.Fixed.{planesInAll};
+ghost use Rattle.plate.specs.Marks.{layAll};
+ghost use Rattle.plate.specs.code.Laying.{Worth, times, worthOf, spot, layWorth, layDrawn, factor, levelMarks, columnMarks, ColumnIn, FewBoxes, Roomy, Placed, kernelAt, marksAt};
 
 // What a mark of coefficient 1 adds in light and in matte. Both wrap: to take a kernel off is to lay what wraps to its opposite.
 pub struct Worth {
@@ -23,13 +29,7 @@ pub struct Worth {
     pub matte: u64,
 }
 
-// The cells of a padded plane: in a row, and in all.
-pub struct Frame {
-    pub wide: usize,
-    pub padded: usize,
-}
-
-// A frame, and the cell of a padded plane that a drawing has as its corner.
+// The cells of a padded plane, in a row and in all, and the one that a drawing has as its corner.
 pub struct Ground {
     pub wide: usize,
     pub padded: usize,
@@ -69,11 +69,11 @@ fn thrice(w: Worth) -> Worth
 
 // One mark: a sum in light, and one in matte.
 fn lay_mark(planes: &mut [u64], g: Ground, plane: usize, x: usize, y: usize, w: Worth)
-    requires { ⌜ (length (now planes) ≡ 14 * g .padded) × (spot g plane x y < 7 * g .padded) ⌝ }
+    requires { ⌜ (length (now planes) ≡ planesInAll * g .padded) × (spot g plane x y < planesEach * g .padded) ⌝ }
     ensures { λ _. ⌜ now (planes .exit) ≡ layWorth g (now (planes .entry)) plane x y w ⌝ }
 {
     let light = g.corner + (plane * g.padded + (y * g.wide + x));
-    let matte = 7 * g.padded + light;
+    let matte = PLANES_EACH * g.padded + light;
     planes[light] = std::num::wrapping_add_u64(planes[light], w.light);
     planes[matte] = std::num::wrapping_add_u64(planes[matte], w.matte);
 }
@@ -97,26 +97,29 @@ fn lay_piece(
     lay_mark(planes, g, plane, x1, y1, end);
 }
 
-// The marks of a line of two pieces, the first in plane p and the second in plane q.
-fn lay_two_pieces(
-    planes: &mut [u64],
-    g: Ground,
-    p: usize,
-    q: usize,
-    o: Outline,
-    l: Line,
-    start: Worth,
-    end: Worth,
-)
-    requires { ⌜ Roomy g (length (now planes)) (twoPieces p q 1 1 o l) ⌝ }
-    ensures { λ _. ⌜ ((w : Worth) (c d : ℕ) → start ≡ times w c → end ≡ times w d → now (planes .exit) ≡ layDrawn g w (now (planes .entry)) (twoPieces p q c d o l)) ⌝ }
+// The level piece of a line, where there is one.
+fn lay_level(planes: &mut [u64], g: Ground, o: Outline, l: Line, start: Worth, end: Worth)
+    requires { ⌜ Roomy g (length (now planes)) (levelMarks 1 1 o l) ⌝ }
+    ensures { λ _. ⌜ ((w : Worth) (c d : ℕ) → start ≡ times w c → end ≡ times w d → now (planes .exit) ≡ layDrawn g w (now (planes .entry)) (levelMarks c d o l)) ⌝ }
 {
-    lay_piece(planes, g, p, o.left, l.edge, o.turn, l.level, start, end);
-    lay_piece(planes, g, q, o.turn, l.level, o.right, l.past, start, end);
+    if !o.flat {
+        return;
+    }
+    lay_piece(
+        planes,
+        g,
+        LEVEL,
+        o.turn,
+        l.level,
+        o.back,
+        l.level,
+        start,
+        end,
+    );
 }
 
-// The marks of a line of three pieces: the middle one is level.
-fn lay_three_pieces(
+// The marks of a line: the first piece in plane p, the last in plane q, and the level one between them where there is one.
+fn lay_line(
     planes: &mut [u64],
     g: Ground,
     p: usize,
@@ -126,120 +129,85 @@ fn lay_three_pieces(
     start: Worth,
     end: Worth,
 )
-    requires { ⌜ Roomy g (length (now planes)) (threePieces p q 1 1 o l) ⌝ }
-    ensures { λ _. ⌜ ((w : Worth) (c d : ℕ) → start ≡ times w c → end ≡ times w d → now (planes .exit) ≡ layDrawn g w (now (planes .entry)) (threePieces p q c d o l)) ⌝ }
+    requires { ⌜ Roomy g (length (now planes)) (linePieces p q 1 1 o l) ⌝ }
+    ensures { λ _. ⌜ ((w : Worth) (c d : ℕ) → start ≡ times w c → end ≡ times w d → now (planes .exit) ≡ layDrawn g w (now (planes .entry)) (linePieces p q c d o l)) ⌝ }
 {
     lay_piece(planes, g, p, o.left, l.edge, o.turn, l.level, start, end);
-    lay_piece(planes, g, 2, o.turn, l.level, o.back, l.level, start, end);
+    lay_level(planes, g, o, l, start, end);
     lay_piece(planes, g, q, o.back, l.level, o.right, l.past, start, end);
 }
 
-// The diamond's lines: plus along the top, minus along the bottom.
-fn lay_two(planes: &mut [u64], g: Ground, o: Outline, w: Worth)
-    requires { ⌜ Roomy g (length (now planes)) (drawnMarks (Two o)) ⌝ }
-    ensures { λ _. ⌜ now (planes .exit) ≡ layDrawn g w (now (planes .entry)) (drawnMarks (Two o)) ⌝ }
+// The lines of an outline: plus along the top, minus along the bottom.
+fn lay_lines(planes: &mut [u64], g: Ground, o: Outline, w: Worth)
+    requires { ⌜ Roomy g (length (now planes)) (drawnMarks (Lines o)) ⌝ }
+    ensures { λ _. ⌜ now (planes .exit) ≡ layDrawn g w (now (planes .entry)) (drawnMarks (Lines o)) ⌝ }
 {
     let minus = opposite(w);
     let top = o.top;
     let bottom = o.bottom;
-    lay_two_pieces(planes, g, o.rising, o.falling, o, top, w, minus);
-    lay_two_pieces(planes, g, o.falling, o.rising, o, bottom, minus, w);
-}
-
-// The lines of the hexagon and the octagon.
-fn lay_three(planes: &mut [u64], g: Ground, o: Outline, w: Worth)
-    requires { ⌜ Roomy g (length (now planes)) (drawnMarks (Three o)) ⌝ }
-    ensures { λ _. ⌜ now (planes .exit) ≡ layDrawn g w (now (planes .entry)) (drawnMarks (Three o)) ⌝ }
-{
-    let minus = opposite(w);
-    let top = o.top;
-    let bottom = o.bottom;
-    lay_three_pieces(planes, g, o.rising, o.falling, o, top, w, minus);
-    lay_three_pieces(planes, g, o.falling, o.rising, o, bottom, minus, w);
-}
-
-// A column of three marks, a side apart.
-fn lay_column_of_three(
-    planes: &mut [u64],
-    g: Ground,
-    plane: usize,
-    x: usize,
-    side: usize,
-    outer: Worth,
-    inner: Worth,
-)
-    requires { ⌜ Roomy g (length (now planes)) (columnOfThree plane x side 1 1) × (3 + 2 * side < length (now planes)) ⌝ }
-    ensures { λ _. ⌜ ((w : Worth) (c d : ℕ) → outer ≡ times w c → inner ≡ times w d → now (planes .exit) ≡ layDrawn g w (now (planes .entry)) (columnOfThree plane x side c d)) ⌝ }
-{
-    lay_mark(planes, g, plane, x, 3, outer);
-    lay_mark(planes, g, plane, x, 3 + side, inner);
-    lay_mark(planes, g, plane, x, 3 + 2 * side, outer);
-}
-
-// A column of four marks, a side apart.
-fn lay_column_of_four(
-    planes: &mut [u64],
-    g: Ground,
-    plane: usize,
-    x: usize,
-    side: usize,
-    a: Worth,
-    b: Worth,
-    c: Worth,
-    d: Worth,
-)
-    requires { ⌜ Roomy g (length (now planes)) (columnOfFour plane x side 1 1 1 1) × (3 + 3 * side < length (now planes)) ⌝ }
-    ensures { λ _. ⌜ ((w : Worth) (i j k l : ℕ) → a ≡ times w i → b ≡ times w j → c ≡ times w k → d ≡ times w l → now (planes .exit) ≡ layDrawn g w (now (planes .entry)) (columnOfFour plane x side i j k l)) ⌝ }
-{
-    lay_mark(planes, g, plane, x, 3, a);
-    lay_mark(planes, g, plane, x, 3 + side, b);
-    lay_mark(planes, g, plane, x, 3 + 2 * side, c);
-    lay_mark(planes, g, plane, x, 3 + 3 * side, d);
+    lay_line(planes, g, o.rising, o.falling, o, top, w, minus);
+    lay_line(planes, g, o.falling, o.rising, o, bottom, minus, w);
 }
 
 // One box: neighbouring corners differ in sign.
 fn lay_box(planes: &mut [u64], g: Ground, plane: usize, side: usize, w: Worth)
-    requires { ⌜ Roomy g (length (now planes)) (boxGrid plane 1 side 3 3) ⌝ }
-    ensures { λ _. ⌜ now (planes .exit) ≡ layDrawn g w (now (planes .entry)) (boxGrid plane 1 side 3 3) ⌝ }
+    requires { ⌜ Roomy g (length (now planes)) (boxGrid plane 1 side margin margin) ⌝ }
+    ensures { λ _. ⌜ now (planes .exit) ≡ layDrawn g w (now (planes .entry)) (boxGrid plane 1 side margin margin) ⌝ }
 {
     let minus = opposite(w);
-    let far = 3 + side;
-    lay_piece(planes, g, plane, 3, 3, 3, far, w, minus);
-    lay_piece(planes, g, plane, far, 3, far, far, minus, w);
+    let far = MARGIN + side;
+    lay_piece(planes, g, plane, MARGIN, MARGIN, MARGIN, far, w, minus);
+    lay_piece(planes, g, plane, far, MARGIN, far, far, minus, w);
 }
 
-// Two boxes convolved: factors 1, -2, 1 along each axis.
-fn lay_tent(planes: &mut [u64], g: Ground, plane: usize, side: usize, w: Worth)
-    requires { ⌜ Roomy g (length (now planes)) (boxGrid plane 2 side 3 3) ⌝ }
-    ensures { λ _. ⌜ now (planes .exit) ≡ layDrawn g w (now (planes .entry)) (boxGrid plane 2 side 3 3) ⌝ }
+// What mark i along an axis of two or three boxes adds: 1, -2, 1 or 1, -3, 3, -1 times w.
+fn factored(w: Worth, boxes: usize, i: usize) -> Worth
+    requires { ⌜ (2 ≤ boxes) × (boxes ≤ 3) × (i ≤ boxes) ⌝ }
+    ensures { λ r. ⌜ r ≡ times w (factor boxes i) ⌝ }
 {
-    let second = 3 + side;
-    let third = 3 + 2 * side;
-    let two = twice(w);
-    let minus2 = opposite(two);
-    let four = twice(two);
-    lay_column_of_three(planes, g, plane, 3, side, w, minus2);
-    lay_column_of_three(planes, g, plane, second, side, minus2, four);
-    lay_column_of_three(planes, g, plane, third, side, w, minus2);
+    if i == 0 {
+        return w;
+    }
+    if boxes == 2 {
+        if i == 2 {
+            return w;
+        }
+        return opposite(twice(w));
+    }
+    if i == 3 {
+        return opposite(w);
+    }
+    if i == 2 {
+        return thrice(w);
+    }
+    opposite(thrice(w))
 }
 
-// Three boxes convolved: factors 1, -3, 3, -1 along each axis.
-fn lay_triple(planes: &mut [u64], g: Ground, plane: usize, side: usize, w: Worth)
-    requires { ⌜ Roomy g (length (now planes)) (boxGrid plane 3 side 3 3) ⌝ }
-    ensures { λ _. ⌜ now (planes .exit) ≡ layDrawn g w (now (planes .entry)) (boxGrid plane 3 side 3 3) ⌝ }
+// A column of the grid of two or three boxes.
+fn lay_column(planes: &mut [u64], g: Ground, b: Boxes, x: usize, w: Worth)
+    requires { ⌜ ColumnIn g b x (length (now planes)) ⌝ }
+    ensures { λ _. ⌜ ((v : Worth) (c : ℕ) → w ≡ times v c → now (planes .exit) ≡ layDrawn g v (now (planes .entry)) (columnMarks b x c)) ⌝ }
 {
-    let second = 3 + side;
-    let third = 3 + 2 * side;
-    let fourth = 3 + 3 * side;
-    let minus1 = opposite(w);
-    let three = thrice(w);
-    let minus3 = opposite(three);
-    let nine = thrice(three);
-    let minus9 = opposite(nine);
-    lay_column_of_four(planes, g, plane, 3, side, w, minus3, three, minus1);
-    lay_column_of_four(planes, g, plane, second, side, minus3, nine, minus9, three);
-    lay_column_of_four(planes, g, plane, third, side, three, minus9, nine, minus3);
-    lay_column_of_four(planes, g, plane, fourth, side, minus1, three, minus3, w);
+    for j in 0..b.count + 1 {
+        lay_mark(
+            planes,
+            g,
+            b.plane,
+            x,
+            MARGIN + j * b.side,
+            factored(w, b.count, j),
+        );
+    }
+}
+
+// Two or three boxes convolved.
+fn lay_columns(planes: &mut [u64], g: Ground, b: Boxes, w: Worth)
+    requires { ⌜ Roomy g (length (now planes)) (drawnMarks (Grid b)) × (2 ≤ b .count) × (b .count ≤ 3) ⌝ }
+    ensures { λ _. ⌜ now (planes .exit) ≡ layDrawn g w (now (planes .entry)) (drawnMarks (Grid b)) ⌝ }
+{
+    for i in 0..b.count + 1 {
+        lay_column(planes, g, b, MARGIN + i * b.side, factored(w, b.count, i));
+    }
 }
 
 // The marks of one, two or three boxes convolved.
@@ -247,16 +215,11 @@ fn lay_grid(planes: &mut [u64], g: Ground, b: Boxes, w: Worth)
     requires { ⌜ Roomy g (length (now planes)) (drawnMarks (Grid b)) × FewBoxes (Grid b) ⌝ }
     ensures { λ _. ⌜ now (planes .exit) ≡ layDrawn g w (now (planes .entry)) (drawnMarks (Grid b)) ⌝ }
 {
-    let count = b.count;
-    if count == 1 {
+    if b.count == 1 {
         lay_box(planes, g, b.plane, b.side, w);
         return;
     }
-    if count == 2 {
-        lay_tent(planes, g, b.plane, b.side, w);
-        return;
-    }
-    lay_triple(planes, g, b.plane, b.side, w);
+    lay_columns(planes, g, b, w);
 }
 
 // The marks of a drawing.
@@ -266,29 +229,15 @@ fn lay_drawing(planes: &mut [u64], g: Ground, d: Drawing, w: Worth)
 {
     match d {
         Drawing::Grid(b) => lay_grid(planes, g, b, w),
-        Drawing::Two(o) => lay_two(planes, g, o, w),
-        Drawing::Three(o) => lay_three(planes, g, o, w),
-    }
-}
-
-// The frame of a plate, made once for all pixels that are laid.
-pub(crate) fn frame_of(s: State) -> Frame
-    requires { ⌜ (s .width ≤ 4096) × (s .height ≤ 4096) × (s .reach ≤ 64) ⌝ }
-    ensures { λ r. ⌜ r ≡ frameOf (sizeOf s) ⌝ }
-{
-    let wide = s.width + 2 * s.reach + 6;
-    let high = s.height + 2 * s.reach + 6;
-    Frame {
-        wide: wide,
-        padded: wide * high,
+        Drawing::Lines(o) => lay_lines(planes, g, o, w),
     }
 }
 
 // What a mark of factor 1 of a pixel is worth.
-fn worth_of(p: Pixel, share: u32) -> Worth
+fn worth_of(p: Pixel, share: Share) -> Worth
     ensures { λ r. ⌜ r ≡ worthOf p share ⌝ }
 {
-    let matte = p.opacity as u64 * share as u64;
+    let matte = p.opacity as u64 * share.each as u64;
     Worth {
         light: p.value as u64 * matte,
         matte: matte,
@@ -296,48 +245,50 @@ fn worth_of(p: Pixel, share: u32) -> Worth
 }
 
 // The kernel of a pixel at (x, y), each mark worth w for 1 of its coefficient.
-fn lay_kernel(planes: &mut [u64], s: State, f: Frame, x: usize, y: usize, p: Pixel, w: Worth)
-    requires { ⌜ Placed (sizeOf s) f (length (now planes)) x y p ⌝ }
-    ensures { λ _. ⌜ now (planes .exit) ≡ layAll (sizeOf s) (now (planes .entry)) (inBoth (w .light) (w .matte) (tapMarks (p .shape) (p .radius) (columnOf (sizeOf s) (y * s .width + x)) (rowOf (sizeOf s) (y * s .width + x)))) ⌝ }
+fn lay_kernel(planes: &mut [u64], frame: Frame, x: usize, y: usize, p: Pixel, w: Worth)
+    requires { ⌜ Placed frame (length (now planes)) x y p ⌝ }
+    ensures { λ _. ⌜ now (planes .exit) ≡ layAll (frame .size) (now (planes .entry)) (kernelAt frame x y p w) ⌝ }
 {
     let shape = p.shape;
-    let margin = s.reach - kernels::shape::reach(shape, p.radius);
-    let g = Ground {
-        wide: f.wide,
-        padded: f.padded,
-        corner: (y + margin) * f.wide + (x + margin),
+    let spare = frame.size.reach - kernels::shape::reach(shape, p.radius);
+    let ground = Ground {
+        wide: frame.wide,
+        padded: frame.padded,
+        corner: (y + spare) * frame.wide + (x + spare),
     };
-    lay_drawing(planes, g, kernels::mark::draw(shape, p.radius), w);
+    lay_drawing(planes, ground, kernels::mark::draw(shape, p.radius), w);
 }
 
 // Lays the marks of the pixel at (x, y).
 pub(crate) fn lay_pixel(
     planes: &mut [u64],
-    s: State,
-    f: Frame,
+    frame: Frame,
     x: usize,
     y: usize,
     p: Pixel,
-    share: u32,
+    table: &Table,
 )
-    requires { ⌜ Placed (sizeOf s) f (length (now planes)) x y p × (share ≡ shareUpTo (p .shape) (p .radius)) ⌝ }
-    ensures { λ _. ⌜ now (planes .exit) ≡ layAll (sizeOf s) (now (planes .entry)) (pixelMarks (sizeOf s) (y * s .width + x) p) ⌝ }
+    requires { ⌜ Placed frame (length (now planes)) x y p × (now table ≡ shareTable) ⌝ }
+    ensures { λ _. ⌜ now (planes .exit) ≡ layAll (frame .size) (now (planes .entry)) (marksAt frame x y p) ⌝ }
 {
-    lay_kernel(planes, s, f, x, y, p, worth_of(p, share));
+    let shape = p.shape;
+    let share = kernels::share::share_in(table, shape, p.radius);
+    lay_kernel(planes, frame, x, y, p, worth_of(p, share));
 }
 
 // Takes the marks of the pixel at (x, y) off.
 pub(crate) fn take_pixel(
     planes: &mut [u64],
-    s: State,
-    f: Frame,
+    frame: Frame,
     x: usize,
     y: usize,
     p: Pixel,
-    share: u32,
+    table: &Table,
 )
-    requires { ⌜ Placed (sizeOf s) f (length (now planes)) x y p × (share ≡ shareUpTo (p .shape) (p .radius)) ⌝ }
-    ensures { λ _. ⌜ now (planes .exit) ≡ layAll (sizeOf s) (now (planes .entry)) (scaled (minus 1) (pixelMarks (sizeOf s) (y * s .width + x) p)) ⌝ }
+    requires { ⌜ Placed frame (length (now planes)) x y p × (now table ≡ shareTable) ⌝ }
+    ensures { λ _. ⌜ now (planes .exit) ≡ layAll (frame .size) (now (planes .entry)) (scaled (minus 1) (marksAt frame x y p)) ⌝ }
 {
-    lay_kernel(planes, s, f, x, y, p, opposite(worth_of(p, share)));
+    let shape = p.shape;
+    let share = kernels::share::share_in(table, shape, p.radius);
+    lay_kernel(planes, frame, x, y, p, opposite(worth_of(p, share)));
 }

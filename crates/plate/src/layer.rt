@@ -1,34 +1,40 @@
 // A layer: all pixels of a plate, given by values, opacities and depths, with one lens and one shape.
+use crate::check::check_fill;
 use crate::clear::clear;
-use crate::lay::Frame;
-use crate::lay::frame_of;
 use crate::lay::lay_pixel;
-use crate::scan::depth_above;
+use crate::lent::Sized;
+use crate::scan::depth_between;
 use crate::scan::value_above;
+use crate::size::Frame;
+use crate::size::Size;
+use crate::size::frame_of;
+use crate::state::Answer;
+use crate::state::Outcome;
 use crate::state::Refusal;
 use crate::state::State;
+use crate::state::accepted;
 use crate::word::Pixel;
 use crate::word::pack;
 use kernels::Lens;
 use kernels::Radius;
 use kernels::Shape;
 use kernels::ShapeRead;
+use kernels::Table;
+use kernels::fixed::DEPTH_TOP;
 ghost use mathlib.Core.Path.{_≡_};
 ghost use mathlib.Core.List.{List};
-ghost use Prim.Native.Nat.{ℕ, _+_, _*_, _≤_, _<_};
+ghost use Prim.Native.Nat.{ℕ, _<_};
 ghost use lib.ListN.{length};
-ghost use Rattle.kernels.specs.Shape.{shapeOf};
 ghost use Rattle.kernels.specs.Share.{shareTable};
 ghost use Rattle.plate.specs.Layout.{places};
-ghost use Rattle.plate.specs.Word.{wordOf};
-ghost use Rattle.plate.specs.Refusal.{sizeOf, inputs, layerCheck};
-ghost use Rattle.plate.specs.Marks.{pixelMarks, layAll};
-ghost use Rattle.plate.specs.Calls.{zeros, knownShape};
-ghost use Rattle.plate.specs.Filling.{layerOf, readBy, pixelFrom, Layable, Ready, FilledTo, Replaced};
+ghost use Rattle.plate.specs.Lent.{stateOf, inputs};
+ghost use Rattle.plate.specs.Refusal.{Accepted};
+ghost use Rattle.plate.specs.Calls.{answerOf, zeros};
+ghost use Rattle.plate.specs.code.Bounds.{LawfulSize};
+ghost use Rattle.plate.specs.code.Filling.{layerOf, inputsRead, layerRead, layerSize, pixelFrom, Layable, GivenAt, Ready, FilledOne, FilledTo, FilledRow, Refilled};
 
-// What all pixels of a fill share, made once: the plate and its frame, the lens, the shape and its largest radius there.
+// What all pixels of a fill share, made once: the plate's frame, the lens, the shape and its largest radius there.
 pub struct Layer {
-    pub state: State,
     pub frame: Frame,
     pub lens: Lens,
     pub shape: Shape,
@@ -37,19 +43,18 @@ pub struct Layer {
 
 // What a fill is to lay, or why it is refused.
 pub enum LayerRead {
-    Lawful(Layer),
-    Unlawful(Refusal),
+    ToFill(Layer),
+    NoFill(Refusal),
 }
 
 // The layer of a plate, a lens and a shape.
-fn layer_of(state: State, lens: Lens, shape: Shape) -> Layer
-    requires { ⌜ (state .width ≤ 4096) × (state .height ≤ 4096) × (state .reach ≤ 64) ⌝ }
-    ensures { λ r. ⌜ r ≡ layerOf state lens shape ⌝ }
+fn layer_of(size: Size, lens: Lens, shape: Shape) -> Layer
+    requires { ⌜ LawfulSize size ⌝ }
+    ensures { λ r. ⌜ r ≡ layerOf size lens shape ⌝ }
 {
-    let frame = frame_of(state);
-    let top = kernels::shape::top_under(shape, state.reach);
+    let frame = frame_of(size);
+    let top = kernels::shape::top_under(shape, size.reach);
     Layer {
-        state: state,
         frame: frame,
         lens: lens,
         shape: shape,
@@ -58,35 +63,49 @@ fn layer_of(state: State, lens: Lens, shape: Shape) -> Layer
 }
 
 // 5, 6, 11 and 12: what a fill checks once its lengths are right.
+fn read_inputs(size: Size, lens: Lens, shape: u8, values: &[u16], depths: &[u32]) -> LayerRead
+    requires { ⌜ LawfulSize size × (length (now values) ≡ places size) × (length (now depths) ≡ places size) ⌝ }
+    ensures { λ r. ⌜ ((opacities : List ℕ) → r ≡ inputsRead size lens shape (inputs (now (values .entry)) opacities (now (depths .entry)))) ⌝ }
+{
+    if value_above(values, size) {
+        return LayerRead::NoFill(Refusal::Value);
+    }
+    let ShapeRead::Known(known) = kernels::shape::shape_of(shape) else {
+        return LayerRead::NoFill(Refusal::Shape);
+    };
+    if !kernels::lens::lawful_lens(lens) {
+        return LayerRead::NoFill(Refusal::Lens);
+    }
+    if depth_between(depths, size, DEPTH_TOP, u32::MAX) {
+        return LayerRead::NoFill(Refusal::Depth);
+    }
+    LayerRead::ToFill(layer_of(size, lens, known))
+}
+
+// What a fill is to lay: the lengths are checked first, then what the inputs hold.
 pub(crate) fn read_layer(
     state: State,
+    lent: Sized,
     lens: Lens,
     shape: u8,
     values: &[u16],
+    opacities: usize,
     depths: &[u32],
 ) -> LayerRead
-    requires { ⌜ (state .width ≤ 4096) × (state .height ≤ 4096) × (state .reach ≤ 64) × (length (now values) ≡ places (sizeOf state)) × (length (now depths) ≡ places (sizeOf state)) ⌝ }
-    ensures { λ r. ⌜ ((opacities : List ℕ) → r ≡ readBy (layerCheck lens shape (inputs (now (values .entry)) opacities (now (depths .entry)))) (layerOf state lens (knownShape (shapeOf shape)))) ⌝ }
+    ensures { λ r. ⌜ ((given : List ℕ) → length given ≡ opacities → r ≡ layerRead state lens shape (inputs (now (values .entry)) given (now (depths .entry))) lent) ⌝ }
 {
-    if value_above(values, state.width, state.height) {
-        return LayerRead::Unlawful(Refusal::Value);
+    let check = check_fill(state, lent, values.len(), opacities, depths.len());
+    if let Outcome::Refused(why) = check {
+        return LayerRead::NoFill(why);
     }
-    let ShapeRead::Known(known) = kernels::shape::shape_of(shape) else {
-        return LayerRead::Unlawful(Refusal::Shape);
-    };
-    if !kernels::lens::lawful_lens(lens) {
-        return LayerRead::Unlawful(Refusal::Lens);
-    }
-    if depth_above(depths, state.width, state.height) {
-        return LayerRead::Unlawful(Refusal::Depth);
-    }
-    LayerRead::Lawful(layer_of(state, lens, known))
+    let size = state.size;
+    read_inputs(size, lens, shape, values, depths)
 }
 
 // One pixel: its marks are laid, and its word is handed back. A lawful layer has a radius for every lawful depth.
 fn fill_pixel(
     planes: &mut [u64],
-    table: &[u32; 390],
+    table: &Table,
     layer: Layer,
     x: usize,
     y: usize,
@@ -94,21 +113,21 @@ fn fill_pixel(
     opacity: u8,
     depth: u32,
 ) -> u64
-    requires { ⌜ Layable layer (length (now planes)) × (now table ≡ shareTable) × (x < layer .state .width) × (y < layer .state .height) × (value ≤ 4095) × (depth ≤ 10000000) ⌝ }
-    ensures { λ r. ⌜ (now (planes .exit) ≡ layAll (sizeOf (layer .state)) (now (planes .entry)) (pixelMarks (sizeOf (layer .state)) (y * layer .state .width + x) (pixelFrom layer value opacity depth))) × (r ≡ wordOf (pixelFrom layer value opacity depth)) ⌝ }
+    requires { ⌜ Layable layer (length (now planes)) × (now table ≡ shareTable) × GivenAt layer x y value depth ⌝ }
+    ensures { λ r. ⌜ FilledOne layer x y (pixelFrom layer value opacity depth) (now (planes .entry)) (now (planes .exit)) r ⌝ }
 {
     let Radius::Pixels(radius) = kernels::lens::radius_from(layer.lens, layer.top, depth) else {
         return 0;
     };
     let shape = layer.shape;
+    let frame = layer.frame;
     let pixel = Pixel {
         value: value,
         opacity: opacity,
         shape: shape,
         radius: radius,
     };
-    let share = kernels::share::share_in(table, shape, radius);
-    lay_pixel(planes, layer.state, layer.frame, x, y, pixel, share);
+    lay_pixel(planes, frame, x, y, pixel, table);
     pack(pixel)
 }
 
@@ -116,17 +135,17 @@ fn fill_pixel(
 fn fill_row(
     planes: &mut [u64],
     pixels: &mut [u64],
-    table: &[u32; 390],
+    table: &Table,
     layer: Layer,
     y: usize,
     values: &[u16],
     opacities: &[u8],
     depths: &[u32],
 )
-    requires { ⌜ Ready layer (length (now planes)) (length (now pixels)) (inputs (now values) (now opacities) (now depths)) × (now table ≡ shareTable) × (y < layer .state .height) ⌝ }
-    ensures { λ _. ⌜ ((cells : List ℕ) → FilledTo layer (inputs (now (values .entry)) (now (opacities .entry)) (now (depths .entry))) cells (now (planes .entry)) (now (pixels .entry)) (y * layer .state .width) → FilledTo layer (inputs (now (values .entry)) (now (opacities .entry)) (now (depths .entry))) cells (now (planes .exit)) (now (pixels .exit)) ((y + 1) * layer .state .width)) ⌝ }
+    requires { ⌜ Ready layer (length (now planes)) (length (now pixels)) (inputs (now values) (now opacities) (now depths)) × (now table ≡ shareTable) × (y < layerSize layer .height) ⌝ }
+    ensures { λ _. ⌜ FilledRow layer (inputs (now (values .entry)) (now (opacities .entry)) (now (depths .entry))) y (now (planes .entry)) (now (pixels .entry)) (now (planes .exit)) (now (pixels .exit)) ⌝ }
 {
-    let width = layer.state.width;
+    let width = layer.frame.size.width;
     let start = y * width;
     for x in 0..width {
         let i = start + x;
@@ -148,16 +167,16 @@ fn fill_row(
 fn fill_rows(
     planes: &mut [u64],
     pixels: &mut [u64],
-    table: &[u32; 390],
+    table: &Table,
     layer: Layer,
     values: &[u16],
     opacities: &[u8],
     depths: &[u32],
 )
     requires { ⌜ Ready layer (length (now planes)) (length (now pixels)) (inputs (now values) (now opacities) (now depths)) × (now table ≡ shareTable) ⌝ }
-    ensures { λ _. ⌜ FilledTo layer (inputs (now (values .entry)) (now (opacities .entry)) (now (depths .entry))) (now (planes .entry)) (now (planes .exit)) (now (pixels .exit)) (places (sizeOf (layer .state))) ⌝ }
+    ensures { λ _. ⌜ FilledTo layer (inputs (now (values .entry)) (now (opacities .entry)) (now (depths .entry))) (now (planes .entry)) (now (planes .exit)) (now (pixels .exit)) (places (layerSize layer)) ⌝ }
 {
-    let height = layer.state.height;
+    let height = layer.frame.size.height;
     for y in 0..height {
         fill_row(planes, pixels, table, layer, y, values, opacities, depths);
     }
@@ -172,8 +191,9 @@ fn clear_both(planes: &mut [u64], log: &mut [u64])
     clear(log);
 }
 
-// Replaces every mark and every pixel, and empties the log. The table of shares is copied once for all pixels.
-pub(crate) fn replace(
+// Replaces every mark and every pixel, and empties the log: no marks are reported. The table of shares is copied once for all
+// pixels.
+pub(crate) fn refill(
     planes: &mut [u64],
     pixels: &mut [u64],
     log: &mut [u64],
@@ -181,11 +201,14 @@ pub(crate) fn replace(
     values: &[u16],
     opacities: &[u8],
     depths: &[u32],
-)
+) -> Answer
     requires { ⌜ Ready layer (length (now planes)) (length (now pixels)) (inputs (now values) (now opacities) (now depths)) ⌝ }
-    ensures { λ _. ⌜ Replaced layer (inputs (now (values .entry)) (now (opacities .entry)) (now (depths .entry))) (length (now (planes .entry))) (length (now (log .entry))) (now (planes .exit)) (now (pixels .exit)) (now (log .exit)) ⌝ }
+    ensures { λ r. ⌜ r ≡ answerOf Accepted 0 (stateOf (layerSize layer) 0) ⌝ }
+    ensures { λ _. ⌜ Refilled layer (inputs (now (values .entry)) (now (opacities .entry)) (now (depths .entry))) (length (now (planes .entry))) (length (now (log .entry))) (now (planes .exit)) (now (pixels .exit)) (now (log .exit)) ⌝ }
 {
     clear_both(planes, log);
     let table = kernels::share::shares();
     fill_rows(planes, pixels, &table, layer, values, opacities, depths);
+    let size = layer.frame.size;
+    accepted(0, size, 0)
 }

@@ -1,12 +1,16 @@
 // Opening a plate.
 use crate::check::check_open;
 use crate::clear::clear;
+use crate::lent::Sized;
+use crate::size::Size;
 use crate::state::Answer;
 use crate::state::Outcome;
-use crate::state::State;
+use crate::state::accepted;
 use crate::state::refused;
+use crate::state::state_of;
 ghost use mathlib.Core.Path.{_≡_};
-ghost use Rattle.plate.specs.Refusal.{lent};
+ghost use Rattle.plate.specs.Layout.{sizeFrom};
+ghost use Rattle.plate.specs.Lent.{lent};
 ghost use Rattle.plate.specs.Calls.{left, openCall};
 
 // Sets planes, pixels, every log entry and the log count to 0. A refused open touches nothing and hands back a state of zeros.
@@ -18,29 +22,29 @@ pub fn open(
     pixels: &mut [u64],
     log: &mut [u64],
 ) -> Answer
-    ensures { λ r. ⌜ left r (now (planes .exit)) (now (pixels .exit)) (now (log .exit)) ≡ openCall (record { width = width; height = height; reach = reach }) (lent (now (planes .entry)) (now (pixels .entry)) (now (log .entry))) ⌝ }
+    ensures { λ r. ⌜ left r (now (planes .exit)) (now (pixels .exit)) (now (log .exit)) ≡ openCall (sizeFrom width height reach) (lent (now (planes .entry)) (now (pixels .entry)) (now (log .entry))) ⌝ }
 {
-    let check = check_open(width, height, reach, planes.len(), pixels.len(), log.len());
+    let size = Size {
+        width: width,
+        height: height,
+        reach: reach,
+    };
+    let lengths = Sized {
+        planes: planes.len(),
+        pixels: pixels.len(),
+        log: log.len(),
+    };
+    let check = check_open(size, lengths);
     if let Outcome::Refused(why) = check {
-        let none = State {
+        let none = Size {
             width: 0,
             height: 0,
             reach: 0,
-            count: 0,
         };
-        return refused(why, none);
+        return refused(why, state_of(none, 0));
     }
     clear(planes);
     clear(pixels);
     clear(log);
-    Answer {
-        outcome: Outcome::Accepted,
-        marks: 0,
-        state: State {
-            width: width,
-            height: height,
-            reach: reach,
-            count: 0,
-        },
-    }
+    accepted(0, size, 0)
 }

@@ -1,198 +1,266 @@
 // The sums that finish a picture's planes, in one pass over its rows. What a sum hands from row to row it keeps in the lent
 // scratch: a row of cells, or one cell for each line of a slope.
 ghost use mathlib.Core.Path.{_≡_};
-ghost use Prim.Native.Nat.{ℕ, _+_, _*_, _-_, _%_, _^_, _<_, _≤_};
-ghost use lib.ListN.{length, getD, set};
-ghost use Rattle.plate.specs.Passes.{rowsAt, room, Ordered, BoxCell, RowSummed, RowLifted, Sizes, planesAt, Picture, Kept};
+ghost use Prim.Native.Nat.{_+_, _%_, _^_, _<_};
+ghost use lib.ListN.{length, getD};
+ghost use Rattle.plate.specs.code.Passes.{sumsEnd, marksEnd, startsAt, matteAfter, Added, LinesIn, MarksOn, MarksOff, BoxesIn, BoxesMet, InOrder, RowSummed, RowLaid, LayReady, RowReady, Summed};
+use kernels::fixed::LEVEL;
+use kernels::fixed::PLANES_EACH;
+use kernels::fixed::SECOND_BOX;
+use kernels::fixed::THIRD_BOX;
 use std::num::wrapping_add_u64;
 use std::num::wrapping_sub_u64;
 
-// Where a picture's sums start in the scratch, for one row: third and second, summed across and down; the lines of the slopes
-// 1, 2, −1 and −2; and everything, summed down.
-pub(crate) struct Rows {
-    pub third: usize,
-    pub second: usize,
-    pub down: usize,
-    pub downs: usize,
-    pub up: usize,
-    pub ups: usize,
-    pub total: usize,
+// The planes of the slopes −2, −1, 1 and 2. A line of a slope below 0 rises to the right.
+const RISE_TWO: usize = LEVEL - 2;
+
+const RISE_ONE: usize = LEVEL - 1;
+
+const FALL_ONE: usize = LEVEL + 1;
+
+const FALL_TWO: usize = LEVEL + 2;
+
+// A picture to be summed: how many columns of its planes, the cells in a row and the rows of a plane, and where its sums start
+// in the scratch and its marks in the planes.
+pub(crate) struct Picture {
+    pub columns: usize,
+    pub wide: usize,
+    pub high: usize,
+    pub sums: usize,
+    pub marks: usize,
 }
 
-// The sums across of a row's box planes, so far.
+// Where one row of a picture starts: in the scratch its box sums, the lines that it meets and the sums down; in the planes its
+// marks, of which those of the next plane are `apart` cells on.
+pub(crate) struct Starts {
+    pub third: usize,
+    pub second: usize,
+    pub falling_one: usize,
+    pub falling_two: usize,
+    pub rising_one: usize,
+    pub rising_two: usize,
+    pub down: usize,
+    pub marks: usize,
+    pub apart: usize,
+}
+
+// The sums across of a row's box planes and of its level plane, so far.
 pub(crate) struct Across {
     pub third: u64,
     pub second: u64,
-    pub first: u64,
+    pub level: u64,
 }
 
 // A row's lines lie where those of the row before it lie, a column further: a line keeps its cell, and nothing moves.
-fn rows_at(a: usize, n: usize, h: usize, y: usize) -> Rows
-    requires { ⌜ (y < h) × (a + room n h < 2 ^ 64) ⌝ }
-    ensures { λ r. ⌜ r ≡ rowsAt a n h y ⌝ }
+fn starts_at(picture: Picture, row: usize) -> Starts
+    requires { ⌜ (row < picture .high) × (sumsEnd picture < 2 ^ 64) × (marksEnd picture < 2 ^ 64) ⌝ }
+    ensures { λ r. ⌜ r ≡ startsAt picture row ⌝ }
 {
-    let half = (h + 1) / 2;
-    let lane = n + half;
-    let side = (y % 2) * lane;
-    let downs = a + 2 * n + (n + h + 1);
-    let up = downs + 2 * lane;
-    Rows {
-        third: a,
-        second: a + n,
-        down: a + 2 * n + (h - y),
-        downs: downs + side + (half - y / 2),
-        up: up + y,
-        ups: up + (n + h + 1) + side + y / 2,
-        total: up + (n + h + 1) + 2 * lane,
+    let columns = picture.columns;
+    let high = picture.high;
+    let half = (high + 1) / 2;
+    let ones = columns + high + 1;
+    let twos = columns + half;
+    let side = (row % 2) * twos;
+    let third = picture.sums;
+    let falling_one = third + 2 * columns;
+    let falling_two = falling_one + ones;
+    let rising_one = falling_two + 2 * twos;
+    let rising_two = rising_one + ones;
+    Starts {
+        third: third,
+        second: third + columns,
+        falling_one: falling_one + (high - row),
+        falling_two: falling_two + side + (half - row / 2),
+        rising_one: rising_one + row,
+        rising_two: rising_two + side + row / 2,
+        down: rising_two + 2 * twos,
+        marks: picture.marks + row * picture.wide,
+        apart: picture.wide * high,
     }
 }
 
-// How many cells a picture's sums take.
-pub(crate) fn room_of(n: usize, h: usize) -> usize
-    requires { ⌜ room n h < 2 ^ 64 ⌝ }
-    ensures { λ r. ⌜ r ≡ room n h ⌝ }
+// Matte, when light's sums and planes come right before its own.
+pub(crate) fn matte_after(light: Picture) -> Picture
+    requires { ⌜ (0 < light .high) × (sumsEnd light < 2 ^ 64) × (marksEnd light < 2 ^ 64) ⌝ }
+    ensures { λ r. ⌜ r ≡ matteAfter light ⌝ }
 {
-    let lane = n + (h + 1) / 2;
-    2 * n + (n + h + 1) + 2 * lane + (n + h + 1) + 2 * lane + n
+    let starts = starts_at(light, 0);
+    Picture {
+        columns: light.columns,
+        wide: light.wide,
+        high: light.high,
+        sums: starts.down + light.columns,
+        marks: light.marks + PLANES_EACH * starts.apart,
+    }
 }
 
-// The cell takes a number on.
-fn raise(s: &mut [u64], at: usize, by: u64) -> u64
-    requires { ⌜ at < length (now s) ⌝ }
-    ensures { λ r. ⌜ (r ≡ (getD (now (s .entry)) at 0 + by) % 2 ^ 64) × (now (s .exit) ≡ set (now (s .entry)) at r) ⌝ }
+fn add_three(one: u64, two: u64, three: u64) -> u64
+    ensures { λ r. ⌜ r ≡ (one + (two + three)) % 2 ^ 64 ⌝ }
 {
-    let t = wrapping_add_u64(s[at], by);
-    s[at] = t;
-    t
+    wrapping_add_u64(one, wrapping_add_u64(two, three))
 }
 
-// A line takes a mark on.
-fn fall(s: &mut [u64], m: &[u64], at: usize, p: usize) -> u64
-    requires { ⌜ (at < length (now s)) × (p < length (now m)) ⌝ }
-    ensures { λ r. ⌜ (r ≡ (getD (now (s .entry)) at 0 + getD (now (m .entry)) p 0) % 2 ^ 64) × (now (s .exit) ≡ set (now (s .entry)) at r) ⌝ }
+// Adds to a cell, and hands out what it then holds.
+fn add_to(cells: &mut [u64], cell: usize, by: u64) -> u64
+    requires { ⌜ cell < length (now cells) ⌝ }
+    ensures { λ r. ⌜ Added (now (cells .entry)) (now (cells .exit)) cell by r ⌝ }
 {
-    let t = wrapping_add_u64(s[at], m[p]);
-    s[at] = t;
-    t
+    let sum = wrapping_add_u64(cells[cell], by);
+    cells[cell] = sum;
+    sum
 }
 
-// A line has a mark taken off, and what it was before is handed out.
-fn rise(s: &mut [u64], m: &[u64], at: usize, p: usize) -> u64
-    requires { ⌜ (at < length (now s)) × (p < length (now m)) ⌝ }
-    ensures { λ r. ⌜ (r ≡ getD (now (s .entry)) at 0) × (now (s .exit) ≡ set (now (s .entry)) at ((r + (2 ^ 64 - 1) * getD (now (m .entry)) p 0) % 2 ^ 64)) ⌝ }
+// Two lines take a mark on each, and what they then hold is handed out, added.
+fn add_marks(
+    scratch: &mut [u64],
+    planes: &[u64],
+    one: usize,
+    two: usize,
+    mark_one: usize,
+    mark_two: usize,
+) -> u64
+    requires { ⌜ LinesIn one two «mark_one» «mark_two» (length (now scratch)) (length (now planes)) ⌝ }
+    ensures { λ r. ⌜ MarksOn (now (planes .entry)) (now (scratch .entry)) (now (scratch .exit)) one two «mark_one» «mark_two» r ⌝ }
 {
-    let t = s[at];
-    s[at] = wrapping_sub_u64(t, m[p]);
-    t
+    let sum_one = wrapping_add_u64(scratch[one], planes[mark_one]);
+    let sum_two = wrapping_add_u64(scratch[two], planes[mark_two]);
+    scratch[one] = sum_one;
+    scratch[two] = sum_two;
+    wrapping_add_u64(sum_one, sum_two)
 }
 
-// The five slope sums of a cell, added.
-fn five(a: u64, b: u64, c: u64, d: u64, e: u64) -> u64
-    ensures { λ r. ⌜ r ≡ (a + b + c + d + e) % 2 ^ 64 ⌝ }
+// Two lines have a mark taken off each, and what they held before is handed out, added.
+fn take_marks_off(
+    scratch: &mut [u64],
+    planes: &[u64],
+    one: usize,
+    two: usize,
+    mark_one: usize,
+    mark_two: usize,
+) -> u64
+    requires { ⌜ LinesIn one two «mark_one» «mark_two» (length (now scratch)) (length (now planes)) ⌝ }
+    ensures { λ r. ⌜ MarksOff (now (planes .entry)) (now (scratch .entry)) (now (scratch .exit)) one two «mark_one» «mark_two» r ⌝ }
 {
-    let left = wrapping_add_u64(wrapping_add_u64(a, b), c);
-    wrapping_add_u64(wrapping_add_u64(left, d), e)
+    let held_one = scratch[one];
+    let held_two = scratch[two];
+    scratch[one] = wrapping_sub_u64(held_one, planes[mark_one]);
+    scratch[two] = wrapping_sub_u64(held_two, planes[mark_two]);
+    wrapping_add_u64(held_one, held_two)
 }
 
-// A cell of the box planes: third goes into second, and that into slope 0, each summed across and down on the way. The marks
-// are at p and g cells apart.
-fn box_cell(
-    s: &mut [u64],
-    m: &[u64],
-    sums: Across,
+// The box planes at a column: third goes into second, and that into the level plane, each summed across and down on the way.
+fn add_boxes(
+    scratch: &mut [u64],
+    planes: &[u64],
     third: usize,
     second: usize,
-    p: usize,
-    g: usize,
+    mark: usize,
+    apart: usize,
+    sums: Across,
 ) -> Across
-    requires { ⌜ (third < second) × (second < length (now s)) × (p + 6 * g < length (now m)) ⌝ }
-    ensures { λ r. ⌜ BoxCell (now (m .entry)) (now (s .entry)) (now (s .exit)) sums r third second p g ⌝ }
+    requires { ⌜ BoxesIn third second mark apart (length (now scratch)) (length (now planes)) ⌝ }
+    ensures { λ r. ⌜ BoxesMet (now (planes .entry)) (now (scratch .entry)) (now (scratch .exit)) third second mark apart sums r ⌝ }
 {
-    let a = wrapping_add_u64(sums.third, m[p + 6 * g]);
-    let t = raise(s, third, a);
-    let b = wrapping_add_u64(sums.second, wrapping_add_u64(t, m[p + 5 * g]));
-    let q = raise(s, second, b);
-    let e = wrapping_add_u64(sums.first, wrapping_add_u64(q, m[p + 2 * g]));
+    let third_across = wrapping_add_u64(sums.third, planes[mark + THIRD_BOX * apart]);
+    let third_down = add_to(scratch, third, third_across);
+    let second_across = add_three(sums.second, third_down, planes[mark + SECOND_BOX * apart]);
+    let second_down = add_to(scratch, second, second_across);
     Across {
-        third: a,
-        second: b,
-        first: e,
+        third: third_across,
+        second: second_across,
+        level: add_three(sums.level, second_down, planes[mark + LEVEL * apart]),
     }
 }
 
-// One row of a picture. All its sums go in one loop, so that a cell's total is read and stored once.
-fn sum_row(s: &mut [u64], m: &[u64], rows: Rows, p: usize, g: usize, n: usize)
-    requires { ⌜ Ordered rows n (length (now s)) ⌝ }
-    requires { ⌜ p + 6 * g + n ≤ length (now m) ⌝ }
-    ensures { λ _. ⌜ RowSummed (now (m .entry)) (now (s .entry)) (now (s .exit)) rows p g n ⌝ }
+// One row of a picture. All its sums go in one loop, so that the sum down of a cell is read and stored once. A falling line
+// counts with its mark, and a rising line before its mark is taken off.
+fn sum_row(scratch: &mut [u64], planes: &[u64], starts: Starts, columns: usize)
+    requires { ⌜ InOrder starts columns (length (now scratch)) (length (now planes)) ⌝ }
+    ensures { λ _. ⌜ RowSummed (now (planes .entry)) (now (scratch .entry)) (now (scratch .exit)) starts columns ⌝ }
 {
-    let third = rows.third;
-    let second = rows.second;
-    let down = rows.down;
-    let downs = rows.downs;
-    let up = rows.up;
-    let ups = rows.ups;
-    let total = rows.total;
+    let third = starts.third;
+    let second = starts.second;
+    let falling_one = starts.falling_one;
+    let falling_two = starts.falling_two;
+    let rising_one = starts.rising_one;
+    let rising_two = starts.rising_two;
+    let down = starts.down;
+    let marks = starts.marks;
+    let apart = starts.apart;
     let mut sums = Across {
         third: 0,
         second: 0,
-        first: 0,
+        level: 0,
     };
-    for i in 0..n {
-        let c = p + i;
-        sums = box_cell(s, m, sums, third + i, second + i, c, g);
-        let d1 = fall(s, m, down + i, c + 3 * g);
-        let d2 = fall(s, m, downs + i, c + 4 * g);
-        let u1 = rise(s, m, up + i, c + g);
-        let u2 = rise(s, m, ups + i, c);
-        raise(s, total + i, five(sums.first, d1, d2, u1, u2));
+    for x in 0..columns {
+        let mark = marks + x;
+        sums = add_boxes(scratch, planes, third + x, second + x, mark, apart, sums);
+        let fall_one = mark + FALL_ONE * apart;
+        let fall_two = mark + FALL_TWO * apart;
+        let rise_one = mark + RISE_ONE * apart;
+        let rise_two = mark + RISE_TWO * apart;
+        let falling = add_marks(
+            scratch,
+            planes,
+            falling_one + x,
+            falling_two + x,
+            fall_one,
+            fall_two,
+        );
+        let rising = take_marks_off(
+            scratch,
+            planes,
+            rising_one + x,
+            rising_two + x,
+            rise_one,
+            rise_two,
+        );
+        add_to(scratch, down + x, add_three(sums.level, falling, rising));
     }
 }
 
-// One row of marks onto the lines that go up.
-fn lift_row(s: &mut [u64], m: &[u64], up: usize, ups: usize, p: usize, q: usize, n: usize)
-    requires { ⌜ (up + n ≤ ups) × (ups + n ≤ length (now s)) × (p + n ≤ length (now m)) × (q + n ≤ length (now m)) ⌝ }
-    ensures { λ _. ⌜ RowLifted (now (m .entry)) (now (s .entry)) (now (s .exit)) up ups p q n ⌝ }
+// One row of marks onto the rising lines that it meets.
+fn lay_row(scratch: &mut [u64], planes: &[u64], starts: Starts, columns: usize)
+    requires { ⌜ InOrder starts columns (length (now scratch)) (length (now planes)) ⌝ }
+    ensures { λ _. ⌜ RowLaid (now (planes .entry)) (now (scratch .entry)) (now (scratch .exit)) starts columns ⌝ }
 {
-    for i in 0..n {
-        fall(s, m, up + i, p + i);
-        fall(s, m, ups + i, q + i);
+    let rising_one = starts.rising_one;
+    let rising_two = starts.rising_two;
+    let marks = starts.marks;
+    let apart = starts.apart;
+    for x in 0..columns {
+        let mark = marks + x;
+        let rise_one = mark + RISE_ONE * apart;
+        let rise_two = mark + RISE_TWO * apart;
+        add_marks(
+            scratch,
+            planes,
+            rising_one + x,
+            rising_two + x,
+            rise_one,
+            rise_two,
+        );
     }
 }
 
-// The lines that go up get all their marks before the first row: the sum of a line from its foot to a row is then what is
-// left of it when the rows above that row have taken their marks off. So the sums down need no second pass over the rows.
-pub(crate) fn lift_all(s: &mut [u64], m: &[u64], a: usize, p: usize, n: usize, w: usize, h: usize)
-    requires { ⌜ Sizes n w h a p (now s) (now m) ⌝ }
-    requires { ⌜ ((i : ℕ) → i < room n h → getD (now s) (a + i) 0 ≡ 0) ⌝ }
-    ensures { λ _. ⌜ Kept (now (s .entry)) (now (s .exit)) a n h ⌝ }
-    ensures { λ _. ⌜ Picture (now (s .exit)) a n h (planesAt (now (m .entry)) p w h) 0 ⌝ }
+// Rising lines get all their marks before the first row: the sum of a line from its foot to a row is then what is left of it
+// when the rows above that row have taken their marks off. So the sums down need no second pass over the rows.
+pub(crate) fn lay_rising(scratch: &mut [u64], planes: &[u64], picture: Picture)
+    requires { ⌜ LayReady picture (now scratch) (now planes) ⌝ }
+    ensures { λ _. ⌜ Summed picture (now (planes .entry)) (now (scratch .entry)) (now (scratch .exit)) 0 ⌝ }
 {
-    let mut y = h;
-    while 0 < y {
-        y -= 1;
-        let rows = rows_at(a, n, h, y);
-        let at = p + y * w;
-        lift_row(s, m, rows.up, rows.ups, at + w * h, at, n);
+    let mut row = picture.high;
+    while 0 < row {
+        row -= 1;
+        lay_row(scratch, planes, starts_at(picture, row), picture.columns);
     }
 }
 
 // A picture's sums, one row further.
-pub(crate) fn picture_row(
-    s: &mut [u64],
-    m: &[u64],
-    a: usize,
-    p: usize,
-    n: usize,
-    w: usize,
-    h: usize,
-    y: usize,
-)
-    requires { ⌜ Sizes n w h a p (now s) (now m) ⌝ }
-    requires { ⌜ (y + 2 < h) × Picture (now s) a n h (planesAt (now m) p w h) y ⌝ }
-    ensures { λ _. ⌜ Kept (now (s .entry)) (now (s .exit)) a n h ⌝ }
-    ensures { λ _. ⌜ Picture (now (s .exit)) a n h (planesAt (now (m .entry)) p w h) (y + 1) ⌝ }
+pub(crate) fn sum_next(scratch: &mut [u64], planes: &[u64], picture: Picture, row: usize)
+    requires { ⌜ RowReady picture (now scratch) (now planes) row ⌝ }
+    ensures { λ _. ⌜ Summed picture (now (planes .entry)) (now (scratch .entry)) (now (scratch .exit)) (row + 1) ⌝ }
 {
-    let rows = rows_at(a, n, h, y);
-    sum_row(s, m, rows, p + y * w, w * h, n);
+    sum_row(scratch, planes, starts_at(picture, row), picture.columns);
 }

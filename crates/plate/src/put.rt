@@ -1,21 +1,37 @@
 // Putting a pixel.
-use crate::check::check_put;
-use crate::exchange::replace;
+use crate::change::Change;
+use crate::change::ChangeRead;
+use crate::change::read_put;
+use crate::exchange::exchange;
+use crate::lent::Ask;
 use crate::state::Answer;
-use crate::state::Outcome;
-use crate::state::Refusal;
 use crate::state::State;
 use crate::state::refused;
-use crate::word::Pixel;
-use crate::word::Unpacked;
 use crate::word::pack_entry;
-use crate::word::unpack;
-use kernels::ShapeRead;
 ghost use mathlib.Core.Path.{_≡_};
-ghost use Rattle.plate.specs.Refusal.{ask, lent};
-ghost use Rattle.plate.specs.Calls.{left, putCall};
+ghost use Rattle.plate.specs.Lent.{ask, lent};
+ghost use Rattle.plate.specs.Change.{ToChange};
+ghost use Rattle.plate.specs.Calls.{left, putBy, putCall};
+ghost use Rattle.plate.specs.code.Changing.{PutReady};
 
-// Logs the word at (x, y), takes its marks off and sets the new pixel. The shape's number is known once the check has passed.
+// Logs the word at the place, and sets the new pixel there.
+fn log_and_exchange(
+    state: State,
+    change: Change,
+    planes: &mut [u64],
+    pixels: &mut [u64],
+    log: &mut [u64],
+) -> Answer
+    requires { ⌜ PutReady state change (lent (now planes) (now pixels) (now log)) ⌝ }
+    ensures { λ r. ⌜ left r (now (planes .exit)) (now (pixels .exit)) (now (log .exit)) ≡ putBy (ToChange change) state (lent (now (planes .entry)) (now (pixels .entry)) (now (log .entry))) ⌝ }
+{
+    let place = change.place;
+    let count = state.count;
+    log[count] = pack_entry(pixels[place], place);
+    exchange(state, count + 1, change, planes, pixels)
+}
+
+// Logs the word at (x, y), takes its marks off and sets the new pixel. A refused put touches nothing.
 pub fn put(
     state: State,
     x: usize,
@@ -30,28 +46,16 @@ pub fn put(
 ) -> Answer
     ensures { λ r. ⌜ left r (now (planes .exit)) (now (pixels .exit)) (now (log .exit)) ≡ putCall state (ask x y value opacity shape radius) (lent (now (planes .entry)) (now (pixels .entry)) (now (log .entry))) ⌝ }
 {
-    let cells = planes.len();
-    let words = pixels.len();
-    let room = log.len();
-    let check = check_put(state, x, y, value, shape, radius, cells, words, room);
-    if let Outcome::Refused(why) = check {
-        return refused(why, state);
-    }
-    let place = y * state.width + x;
-    let word = pixels[place];
-    let Unpacked::Whole(old) = unpack(word, state.reach) else {
-        return refused(Refusal::StoredWord, state);
-    };
-    let ShapeRead::Known(known) = kernels::shape::shape_of(shape) else {
-        return refused(Refusal::Shape, state);
-    };
-    let new = Pixel {
+    let asked = Ask {
+        x: x,
+        y: y,
         value: value,
         opacity: opacity,
-        shape: known,
+        shape: shape,
         radius: radius,
     };
-    let count = state.count;
-    log[count] = pack_entry(word, place);
-    replace(state, count + 1, x, y, old, new, planes, pixels)
+    match read_put(state, asked, planes.len(), pixels, log.len()) {
+        ChangeRead::ToChange(change) => log_and_exchange(state, change, planes, pixels, log),
+        ChangeRead::NoChange(why) => refused(why, state),
+    }
 }

@@ -1,19 +1,25 @@
 // The inputs of a fill scanned row by row for a number that no pixel can have, left at the first.
+use crate::size::Size;
+use kernels::fixed::VALUE_TOP;
 ghost use mathlib.Core.Path.{_≡_};
-ghost use Prim.Native.Nat.{_*_};
-ghost use lib.ListN.{length};
-ghost use Rattle.plate.specs.Refusal.{anyAbove};
+ghost use mathlib.Core.Bool.{false};
+ghost use Prim.Native.Nat.{ℕ, _≤_};
+ghost use lib.ListN.{length, getD};
+ghost use Rattle.kernels.specs.Fixed.{valueTop};
+ghost use Rattle.plate.specs.Layout.{places};
+ghost use Rattle.plate.specs.Refusal.{anyOf, anyAbove};
+ghost use Rattle.plate.specs.code.Filling.{isBetween, numberTop};
 
-// 5: whether a value is above 4,095.
-pub(crate) fn value_above(values: &[u16], width: usize, height: usize) -> bool
-    requires { ⌜ length (now values) ≡ width * height ⌝ }
-    ensures { λ r. ⌜ r ≡ anyAbove 4095 (now (values .entry)) ⌝ }
+// 5: whether a value is above its top.
+pub(crate) fn value_above(values: &[u16], size: Size) -> bool
+    requires { ⌜ length (now values) ≡ places size ⌝ }
+    ensures { λ r. ⌜ r ≡ anyAbove valueTop (now (values .entry)) ⌝ }
 {
     let mut found = false;
-    'rows: for y in 0..height {
-        let start = y * width;
-        for x in 0..width {
-            if 4095 < values[start + x] {
+    'rows: for y in 0..size.height {
+        let start = y * size.width;
+        for x in 0..size.width {
+            if VALUE_TOP < values[start + x] {
                 found = true;
                 break 'rows;
             }
@@ -22,16 +28,27 @@ pub(crate) fn value_above(values: &[u16], width: usize, height: usize) -> bool
     found
 }
 
-// 12: whether a depth is above 10,000,000.
-pub(crate) fn depth_above(depths: &[u32], width: usize, height: usize) -> bool
-    requires { ⌜ length (now depths) ≡ width * height ⌝ }
-    ensures { λ r. ⌜ r ≡ anyAbove 10000000 (now (depths .entry)) ⌝ }
+// Whether a depth is above the one bound and not above the other. Any depth is a number of 32 bits.
+fn lies_between(depth: u32, above: u32, most: u32) -> bool
+    ensures { λ r. ⌜ (r ≡ isBetween above most depth) × (depth ≤ numberTop) ⌝ }
+{
+    if depth <= above {
+        return false;
+    }
+    depth <= most
+}
+
+// Whether one of the depths is above the one bound and not above the other. Where none is, all of them were read.
+pub(crate) fn depth_between(depths: &[u32], size: Size, above: u32, most: u32) -> bool
+    requires { ⌜ length (now depths) ≡ places size ⌝ }
+    ensures { λ r. ⌜ r ≡ anyOf (isBetween above most) (now (depths .entry)) ⌝ }
+    ensures { λ r. ⌜ (r ≡ false → (i : ℕ) → getD (now (depths .entry)) i 0 ≤ numberTop) ⌝ }
 {
     let mut found = false;
-    'rows: for y in 0..height {
-        let start = y * width;
-        for x in 0..width {
-            if 10000000 < depths[start + x] {
+    'rows: for y in 0..size.height {
+        let start = y * size.width;
+        for x in 0..size.width {
+            if lies_between(depths[start + x], above, most) {
                 found = true;
                 break 'rows;
             }

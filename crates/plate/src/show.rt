@@ -1,99 +1,133 @@
 // Show: the planes finished into the two pictures. One pass over the rows sums light and matte side by side and rounds each row
 // of the image at once, so that no picture's sums are ever stored.
 ghost use mathlib.Core.Path.{_≡_};
-ghost use mathlib.Core.List.{_++_};
-ghost use Prim.Native.Nat.{_+_, _*_, _<_, _≤_};
-ghost use lib.ListN.{length, drop};
-ghost use Rattle.plate.specs.Refusal.{sizeOf, views, Accepted};
-ghost use Rattle.plate.specs.Calls.{zeros, answerOf, shown, showBy, showCall};
-ghost use Rattle.plate.specs.Passes.{Planned, Both, ValuesShown, MattesShown, Pictured, ShowReady};
+ghost use Prim.Native.Nat.{_+_};
+ghost use Rattle.plate.specs.Lent.{views};
+ghost use Rattle.plate.specs.Calls.{shown, showCall};
+ghost use Rattle.plate.specs.code.Bounds.{LawfulSize};
+ghost use Rattle.plate.specs.code.Showing.{lightPicture, BothIn, AboveReady, BothReady, BothSummed, RowIn, RowShown, ImageReady, ShownTo, ShowReady, ShowDone};
 use crate::check::check_show;
-use crate::pass::lift_all;
-use crate::pass::picture_row;
-use crate::pass::room_of;
+use crate::clear::clear;
+use crate::pass::Picture;
+use crate::pass::lay_rising;
+use crate::pass::matte_after;
+use crate::pass::sum_next;
+use crate::size::Size;
+use crate::size::frame_of;
 use crate::state::Answer;
 use crate::state::Outcome;
 use crate::state::State;
+use kernels::fixed::MARGIN;
 use kernels::rounding::shown_matte;
 use kernels::rounding::shown_value;
 
-// The first n cells are set to 0.
-fn clear(s: &mut [u64], n: usize)
-    requires { ⌜ n ≤ length (now s) ⌝ }
-    ensures { λ _. ⌜ now (s .exit) ≡ zeros n ++ drop n (now (s .entry)) ⌝ }
+// The image in a padded plane: its first column, which is its first row as well, and its sizes.
+pub(crate) struct Image {
+    pub first: usize,
+    pub width: usize,
+    pub height: usize,
+}
+
+// Light of a plate's planes: it is summed up to the image's last column, since no sum goes leftwards.
+fn light_picture(size: Size) -> Picture
+    requires { ⌜ LawfulSize size ⌝ }
+    ensures { λ r. ⌜ r ≡ lightPicture size ⌝ }
 {
-    for i in 0..n {
-        s[i] = 0;
+    let frame = frame_of(size);
+    Picture {
+        columns: size.reach + MARGIN + size.width,
+        wide: frame.wide,
+        high: frame.high,
+        sums: 0,
+        marks: 0,
     }
 }
 
 // Both pictures' sums, before the first row.
-fn ready(s: &mut [u64], m: &[u64], n: usize, w: usize, h: usize)
-    requires { ⌜ Planned n w h (now s) (now m) ⌝ }
-    ensures { λ _. ⌜ (length (now (s .exit)) ≡ length (now (s .entry))) × Both (now (s .exit)) (now (m .entry)) n w h 0 ⌝ }
+fn lay_both(scratch: &mut [u64], planes: &[u64], light: Picture)
+    requires { ⌜ BothIn light (now scratch) (now planes) ⌝ }
+    ensures { λ _. ⌜ BothSummed light (now (planes .entry)) (now (scratch .entry)) (now (scratch .exit)) 0 ⌝ }
 {
-    let size = room_of(n, h);
-    clear(s, 2 * size);
-    lift_all(s, m, 0, 0, n, w, h);
-    lift_all(s, m, size, 7 * (w * h), n, w, h);
+    let matte = matte_after(light);
+    let light_end = matte.sums;
+    let end = light_end + (light_end - light.sums);
+    clear(&mut scratch[..end]);
+    lay_rising(scratch, planes, light);
+    lay_rising(scratch, planes, matte);
 }
 
 // Both pictures' sums, one row further.
-fn both_rows(s: &mut [u64], m: &[u64], n: usize, w: usize, h: usize, y: usize)
-    requires { ⌜ Planned n w h (now s) (now m) ⌝ }
-    requires { ⌜ (y + 2 < h) × Both (now s) (now m) n w h y ⌝ }
-    ensures { λ _. ⌜ (length (now (s .exit)) ≡ length (now (s .entry))) × Both (now (s .exit)) (now (m .entry)) n w h (y + 1) ⌝ }
+fn sum_both(scratch: &mut [u64], planes: &[u64], light: Picture, row: usize)
+    requires { ⌜ BothReady light (now scratch) (now planes) row ⌝ }
+    ensures { λ _. ⌜ BothSummed light (now (planes .entry)) (now (scratch .entry)) (now (scratch .exit)) (row + 1) ⌝ }
 {
-    let size = room_of(n, h);
-    picture_row(s, m, 0, 0, n, w, h, y);
-    picture_row(s, m, size, 7 * (w * h), n, w, h, y);
+    let matte = matte_after(light);
+    sum_next(scratch, planes, light, row);
+    sum_next(scratch, planes, matte, row);
 }
 
-// The rows above the image are summed, and nothing is shown of them.
-fn rows_above(s: &mut [u64], m: &[u64], n: usize, w: usize, h: usize, b: usize)
-    requires { ⌜ Planned n w h (now s) (now m) ⌝ }
-    requires { ⌜ (b + 2 < h) × Both (now s) (now m) n w h 0 ⌝ }
-    ensures { λ _. ⌜ (length (now (s .exit)) ≡ length (now (s .entry))) × Both (now (s .exit)) (now (m .entry)) n w h b ⌝ }
+// The rows above the image: they are summed, and nothing is shown of them.
+fn sum_above(scratch: &mut [u64], planes: &[u64], light: Picture, rows: usize)
+    requires { ⌜ AboveReady light (now scratch) (now planes) rows ⌝ }
+    ensures { λ _. ⌜ BothSummed light (now (planes .entry)) (now (scratch .entry)) (now (scratch .exit)) rows ⌝ }
 {
-    for y in 0..b {
-        both_rows(s, m, n, w, h, y);
+    lay_both(scratch, planes, light);
+    for row in 0..rows {
+        sum_both(scratch, planes, light, row);
     }
 }
 
-// A row of both pictures, from the sums of light at l and of matte at d.
-fn round_row(v: &mut [u16], o: &mut [u8], s: &[u64], at: usize, l: usize, d: usize, n: usize)
-    requires { ⌜ (at + n ≤ length (now v)) × (at + n ≤ length (now o)) × (l + n ≤ length (now s)) × (d + n ≤ length (now s)) ⌝ }
-    ensures { λ _. ⌜ ValuesShown (now (s .entry)) l d at n (now (v .entry)) (now (v .exit)) ⌝ }
-    ensures { λ _. ⌜ MattesShown (now (s .entry)) d at n (now (o .entry)) (now (o .exit)) ⌝ }
-{
-    for i in 0..n {
-        v[at + i] = shown_value(s[l + i], s[d + i]);
-        o[at + i] = shown_matte(s[d + i]);
-    }
-}
-
-// The rows of the image, which starts at column and row b: each is summed, and shown while its sums are at hand.
-fn rows_shown(
-    v: &mut [u16],
-    o: &mut [u8],
-    s: &mut [u64],
-    m: &[u64],
-    w: usize,
-    h: usize,
-    b: usize,
+// A row of the image, from the place `first` on, of the finished sums that start at `light` and `matte`.
+fn round_row(
+    values: &mut [u16],
+    mattes: &mut [u8],
+    scratch: &[u64],
+    light: usize,
+    matte: usize,
+    first: usize,
     width: usize,
-    height: usize,
 )
-    requires { ⌜ (b + height + 2 ≤ h) × (length (now v) ≡ width * height) × (length (now o) ≡ width * height) ⌝ }
-    requires { ⌜ Planned (b + width) w h (now s) (now m) × Both (now s) (now m) (b + width) w h b ⌝ }
-    ensures { λ _. ⌜ Pictured (now (m .entry)) (now (v .exit)) (now (o .exit)) w h b width height ⌝ }
+    requires { ⌜ RowIn (now scratch) (now values) (now mattes) light matte first width ⌝ }
+    ensures { λ _. ⌜ RowShown (now (scratch .entry)) light matte first width (now (values .entry)) (now (values .exit)) (now (mattes .entry)) (now (mattes .exit)) ⌝ }
 {
-    let size = room_of(b + width, h);
-    let light = size - width;
-    let matte = size + light;
-    for i in 0..height {
-        both_rows(s, m, b + width, w, h, b + i);
-        round_row(v, o, s, i * width, light, matte, width);
+    for x in 0..width {
+        let place = first + x;
+        let matte_sum = scratch[matte + x];
+        values[place] = shown_value(scratch[light + x], matte_sum);
+        mattes[place] = shown_matte(matte_sum);
+    }
+}
+
+// The rows of the image: each is summed, and shown while its sums are at hand.
+fn show_rows(
+    values: &mut [u16],
+    mattes: &mut [u8],
+    scratch: &mut [u64],
+    planes: &[u64],
+    light: Picture,
+    image: Image,
+)
+    requires { ⌜ ImageReady light image (now scratch) (now planes) (now values) (now mattes) ⌝ }
+    ensures { λ _. ⌜ ShownTo light image (now (planes .entry)) (now (values .exit)) (now (mattes .exit)) (image .height) ⌝ }
+{
+    let matte = matte_after(light);
+    let first = image.first;
+    let width = image.width;
+    let height = image.height;
+    let light_end = matte.sums;
+    let light_down = light_end - width;
+    let matte_down = light_down + (light_end - light.sums);
+    for row in 0..height {
+        sum_both(scratch, planes, light, first + row);
+        round_row(
+            values,
+            mattes,
+            scratch,
+            light_down,
+            matte_down,
+            row * width,
+            width,
+        );
     }
 }
 
@@ -105,18 +139,19 @@ fn show_all(
     values: &mut [u16],
     mattes: &mut [u8],
 )
-    requires { ⌜ ShowReady (sizeOf state) (now planes) (now scratch) (now values) (now mattes) ⌝ }
-    ensures { λ _. ⌜ shown (answerOf Accepted 0 state) (now (scratch .exit)) (now (values .exit)) (now (mattes .exit)) ≡ showBy Accepted state (now (planes .entry)) (views (now (scratch .entry)) (now (values .entry)) (now (mattes .entry))) ⌝ }
+    requires { ⌜ ShowReady (state .size) (now planes) (now scratch) (now values) (now mattes) ⌝ }
+    ensures { λ _. ⌜ ShowDone state (now (planes .entry)) (views (now (scratch .entry)) (now (values .entry)) (now (mattes .entry))) (views (now (scratch .exit)) (now (values .exit)) (now (mattes .exit))) ⌝ }
 {
-    let width = state.width;
-    let height = state.height;
-    let b = state.reach + 3;
-    let w = width + 2 * state.reach + 6;
-    let h = height + 2 * state.reach + 6;
-    ready(scratch, planes, b + width, w, h);
-    rows_above(scratch, planes, b + width, w, h, b);
-    rows_shown(values, mattes, scratch, planes, w, h, b, width, height);
-    clear(scratch, scratch.len());
+    let size = state.size;
+    let light = light_picture(size);
+    let image = Image {
+        first: size.reach + MARGIN,
+        width: size.width,
+        height: size.height,
+    };
+    sum_above(scratch, planes, light, image.first);
+    show_rows(values, mattes, scratch, planes, light, image);
+    clear(scratch);
 }
 
 // The pictures of what the planes hold, and the scratch cleared; or a refusal, and nothing is touched.

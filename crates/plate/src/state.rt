@@ -1,13 +1,13 @@
 // What a caller holds of a plate beside its buffers, and what each call answers.
+use crate::size::Size;
 ghost use mathlib.Core.Path.{_≡_};
-ghost use Rattle.plate.specs.Refusal.{Refused, refusalNumber, outcomeNumber};
+ghost use Rattle.plate.specs.Lent.{stateOf};
+ghost use Rattle.plate.specs.Refusal.{Accepted, Refused, refusalNumber, outcomeNumber};
 ghost use Rattle.plate.specs.Calls.{answerOf};
 
 // The sizes of a plate and the number of log entries in use. It goes in by value and comes back in the answer.
 pub struct State {
-    pub width: usize,
-    pub height: usize,
-    pub reach: usize,
+    pub size: Size,
     pub count: usize,
 }
 
@@ -37,6 +37,27 @@ pub struct Answer {
     pub outcome: Outcome,
     pub marks: u32,
     pub state: State,
+}
+
+// The state of a plate with a log count.
+pub(crate) fn state_of(size: Size, count: usize) -> State
+    ensures { λ r. ⌜ r ≡ stateOf size count ⌝ }
+{
+    State {
+        size: size,
+        count: count,
+    }
+}
+
+// What an accepted call answers: the marks that it moved, and the state with the log count that it leaves.
+pub(crate) fn accepted(marks: u32, size: Size, count: usize) -> Answer
+    ensures { λ r. ⌜ r ≡ answerOf Accepted marks (stateOf size count) ⌝ }
+{
+    Answer {
+        outcome: Outcome::Accepted,
+        marks: marks,
+        state: state_of(size, count),
+    }
 }
 
 // What a refused call answers: no marks, and the state that is handed back.

@@ -1,48 +1,40 @@
 // Undoing the last put.
-use crate::check::check_undo;
-use crate::exchange::replace;
+use crate::change::Change;
+use crate::change::ChangeRead;
+use crate::change::read_undo;
+use crate::exchange::exchange;
 use crate::state::Answer;
-use crate::state::Outcome;
-use crate::state::Refusal;
 use crate::state::State;
 use crate::state::refused;
-use crate::word::EntryRead;
-use crate::word::Unpacked;
-use crate::word::unpack;
-use crate::word::unpack_entry;
 ghost use mathlib.Core.Path.{_≡_};
-ghost use Rattle.plate.specs.Refusal.{lent};
-ghost use Rattle.plate.specs.Calls.{left, undoCall};
+ghost use Rattle.plate.specs.Lent.{lent};
+ghost use Rattle.plate.specs.Change.{ToChange};
+ghost use Rattle.plate.specs.Calls.{left, undoBy, undoCall};
+ghost use Rattle.plate.specs.code.Changing.{UndoReady};
 
-// Reads the last log entry, then zeroes it, and puts the logged pixel back in its place.
+// Zeroes the last log entry, and puts the logged pixel back in its place.
+fn unlog_and_exchange(
+    state: State,
+    change: Change,
+    planes: &mut [u64],
+    pixels: &mut [u64],
+    log: &mut [u64],
+) -> Answer
+    requires { ⌜ UndoReady state change (lent (now planes) (now pixels) (now log)) ⌝ }
+    ensures { λ r. ⌜ left r (now (planes .exit)) (now (pixels .exit)) (now (log .exit)) ≡ undoBy (ToChange change) state (lent (now (planes .entry)) (now (pixels .entry)) (now (log .entry))) ⌝ }
+{
+    let count = state.count;
+    let last = count - 1;
+    log[last] = 0;
+    exchange(state, last, change, planes, pixels)
+}
+
+// Reads the last log entry, then zeroes it, and puts the logged pixel back in its place. A refused undo touches nothing.
 pub fn undo(state: State, planes: &mut [u64], pixels: &mut [u64], log: &mut [u64]) -> Answer
     ensures { λ r. ⌜ left r (now (planes .exit)) (now (pixels .exit)) (now (log .exit)) ≡ undoCall state (lent (now (planes .entry)) (now (pixels .entry)) (now (log .entry))) ⌝ }
 {
-    let check = check_undo(state, planes.len(), pixels.len(), log.len());
-    if let Outcome::Refused(why) = check {
-        return refused(why, state);
+    match read_undo(state, planes.len(), pixels, log) {
+        ChangeRead::ToChange(change) => unlog_and_exchange(state, change, planes, pixels, log),
+        ChangeRead::NoChange(why) => refused(why, state),
     }
-    let width = state.width;
-    let last = state.count - 1;
-    let word = log[last];
-    let EntryRead::Logged(entry) = unpack_entry(word, width, state.height, state.reach) else {
-        return refused(Refusal::StoredWord, state);
-    };
-    let place = entry.place;
-    let stored = pixels[place];
-    let Unpacked::Whole(current) = unpack(stored, state.reach) else {
-        return refused(Refusal::StoredWord, state);
-    };
-    let old = entry.pixel;
-    log[last] = 0;
-    replace(
-        state,
-        last,
-        place % width,
-        place / width,
-        current,
-        old,
-        planes,
-        pixels,
-    )
 }

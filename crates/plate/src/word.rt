@@ -1,9 +1,15 @@
 // The pixel word and the log entry.
+use crate::fixed::WORD_BITS;
+use crate::fixed::WORD_MASK;
+use crate::size::Size;
 use kernels::Shape;
 use kernels::ShapeRead;
 ghost use mathlib.Core.Path.{_≡_};
-ghost use Prim.Native.Nat.{_+_, _*_, _≤_, _<_, _^_};
-ghost use Rattle.plate.specs.Word.{wordOf, readWord, readEntry};
+ghost use Prim.Native.Nat.{_≤_, _<_, _^_};
+ghost use Rattle.kernels.specs.Fixed.{valueTop};
+ghost use Rattle.plate.specs.Fixed.{wordBits};
+ghost use Rattle.plate.specs.Word.{wordOf, readWord, loggedAs, readEntry};
+ghost use Rattle.plate.specs.code.Bounds.{LawfulSize};
 
 pub struct Pixel {
     pub value: u16,
@@ -32,7 +38,7 @@ pub enum EntryRead {
 
 // The word of a pixel: the value in bits 0 to 11, opacity in 12 to 19, shape in 20 to 23, radius in 24 to 31.
 pub(crate) fn pack(p: Pixel) -> u64
-    requires { ⌜ p .value ≤ 4095 ⌝ }
+    requires { ⌜ p .value ≤ valueTop ⌝ }
     ensures { λ r. ⌜ r ≡ wordOf p ⌝ }
 {
     let shape = p.shape;
@@ -44,7 +50,7 @@ pub(crate) fn pack(p: Pixel) -> u64
 pub(crate) fn unpack(word: u64, reach: usize) -> Unpacked
     ensures { λ r. ⌜ r ≡ readWord reach word ⌝ }
 {
-    if word >> 32 != 0 {
+    if word >> WORD_BITS != 0 {
         return Unpacked::Broken;
     }
     let ShapeRead::Known(shape) = kernels::shape::shape_of((word >> 20 & 15) as u8) else {
@@ -64,22 +70,22 @@ pub(crate) fn unpack(word: u64, reach: usize) -> Unpacked
 
 // A log entry: the word below, the place above.
 pub(crate) fn pack_entry(word: u64, place: usize) -> u64
-    requires { ⌜ (word < 2 ^ 32) × (place < 2 ^ 32) ⌝ }
-    ensures { λ r. ⌜ r ≡ word + 2 ^ 32 * place ⌝ }
+    requires { ⌜ (word < 2 ^ wordBits) × (place < 2 ^ wordBits) ⌝ }
+    ensures { λ r. ⌜ r ≡ loggedAs word place ⌝ }
 {
-    word | (place as u64) << 32
+    word | (place as u64) << WORD_BITS
 }
 
 // The place and the pixel of a log entry. Unreadable are a place outside of the plate and a broken word.
-pub(crate) fn unpack_entry(entry: u64, width: usize, height: usize, reach: usize) -> EntryRead
-    requires { ⌜ (width ≤ 4096) × (height ≤ 4096) ⌝ }
-    ensures { λ r. ⌜ r ≡ readEntry (record { width = width; height = height; reach = reach }) entry ⌝ }
+pub(crate) fn unpack_entry(entry: u64, size: Size) -> EntryRead
+    requires { ⌜ LawfulSize size ⌝ }
+    ensures { λ r. ⌜ r ≡ readEntry size entry ⌝ }
 {
-    let place = (entry >> 32) as usize;
-    if width * height <= place {
+    let place = (entry >> WORD_BITS) as usize;
+    if size.width * size.height <= place {
         return EntryRead::Unreadable;
     }
-    let Unpacked::Whole(pixel) = unpack(entry & 4294967295, reach) else {
+    let Unpacked::Whole(pixel) = unpack(entry & WORD_MASK, size.reach) else {
         return EntryRead::Unreadable;
     };
     EntryRead::Logged(Entry {

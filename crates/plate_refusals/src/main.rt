@@ -2,6 +2,7 @@
 use libc::STDOUT_FILENO;
 use plate::Answer;
 use plate::Lens;
+use plate::Size;
 use plate::State;
 
 fn print_number(a: Answer) {
@@ -68,9 +69,11 @@ fn log_refused(count: usize) {
     let mut log = [0u64; 1];
     let opened = plate::open::open(3, 1, 1, &mut planes, &mut pixels, &mut log[0..0]);
     let state = State {
-        width: 3,
-        height: 1,
-        reach: 1,
+        size: Size {
+            width: 3,
+            height: 1,
+            reach: 1,
+        },
         count: count,
     };
     print_number(plate::put::put(

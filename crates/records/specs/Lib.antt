@@ -1,5 +1,6 @@
+pub mod Fixed
 pub mod Text
-pub mod Written
 pub mod Record
 pub mod Run
 pub mod Machine
+pub mod code

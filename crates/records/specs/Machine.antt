@@ -4,24 +4,32 @@ use mathlib.Core.Path.{_≡_}
 use mathlib.Core.Bool.{Bool, true, false}
 use mathlib.Core.List.{List, [], _∷_, _++_}
 use Prim.Native.Nat.{ℕ, _+_, _*_, _-_, _^_, _≤_, _<_}
+use denote.Ref.{RefT, now}
+use denote.Triple.Both.{Both}
 use lib.Dec.{ltb, eqb}
 use lib.ListN.{length, take, drop, set}
 use Rattle.kernels.specs.Choice.{pick}
-use Rattle.kernels.specs.Shape.{numberOf}
-use Rattle.plate.specs.Layout.{Size, padded, places}
+use Rattle.plate.specs.Fixed.{planesInAll, scratchPlanes}
+use Rattle.plate.specs.declared.size.Size.{Size}
+use Rattle.plate.specs.Layout.{padded, places}
 use Rattle.plate.specs.declared.state.State.{State}
+use Rattle.plate.specs.declared.state.Answer.{Answer}
 use Rattle.plate.specs.declared.state.Outcome.{Outcome}
 use Rattle.plate.specs.declared.state.Outcome.the-variants.{Accepted, Refused}
-use Rattle.plate.specs.Refusal.{refusalNumber, outcomeNumber, sizeOf, Lent, lent, Ask, ask, Views, views}
-use Rattle.plate.specs.Calls.{Left, Shown, openCall, putCall, undoCall, showCall, zeros}
+use Rattle.plate.specs.Refusal.{refusalNumber, outcomeNumber}
+use Rattle.plate.specs.declared.lent.Ask.{Ask}
+use Rattle.plate.specs.Lent.{Lent, lent, Views, views}
+use Rattle.plate.specs.Calls.{Left, openCall, putCall, undoCall, showCall, zeros}
 use Rattle.plate.specs.Lists.{Byte, codes}
-use Rattle.records.specs.Text.{doneLine, showText}
-use Rattle.records.specs.Written.{written, Wrote}
-use Rattle.records.specs.Record.{Record, Open, Put, NoShape, Undo, Show, Stop, Sizes, Kind, Body, Order, Cells, Length, unknown, bytes, bodyLength, recordOf}
+use Rattle.records.specs.Fixed.{cellsTop, planesRoom, scratchRoom, logRoom, longestBody, textRoom}
+use Rattle.records.specs.Text.{doneLine, showText, withText}
+use Rattle.records.specs.Record.{Record, Open, Put, NoShape, Undo, Show, Stop, Sizes, Kind, Body, Order, Cells, BodyLength, Bytes, NoKind, bodyLength, recordOf, strokeAsk, shapelessAsk}
 use Rattle.records.specs.Run.{answerText, stopText, text}
+pub use Rattle.records.specs.declared.request.Strike.{Strike}
+pub use Rattle.records.specs.declared.request.Request.{Request}
+pub use Rattle.records.specs.declared.request.Request.the-variants.{ToOpen, ToPut, ToUndo}
 pub use Rattle.records.specs.declared.perform.Stage.{Stage}
 pub use Rattle.records.specs.declared.perform.Stage.the-variants.{Closed, Opened, Ended}
-pub use Rattle.records.specs.declared.perform.Done.{Done}
 pub use Rattle.records.specs.declared.machine.Machine.{Machine}
 pub use Rattle.records.specs.declared.machine.Next.{Next}
 pub use Rattle.records.specs.declared.machine.Next.the-variants.{Wait, Lose, Refuse, Do}
@@ -40,144 +48,147 @@ abbrev pub buffers : List ℕ → List ℕ → List ℕ → List ℕ → List �
 buffers planes pixels log scratch values mattes =
     record { planes = planes; pixels = pixels; log = log; scratch = scratch; values = values; mattes = mattes }
 
--- a plate of more than 512 cells in a plane is lent nothing, and the plate then refuses it
-abbrev pub upTo512 : Size → ℕ → ℕ
-upTo512 z n = pick (ltb 512 (padded z)) 0 n
+-- those that a call is lent, as they are when it starts and when it ends
+abbrev pub Borrowed : Type 0
+Borrowed = Both (RefT (List ℕ)) (RefT (List ℕ))
+
+abbrev pub atEntry : Borrowed → Borrowed → Borrowed → Borrowed → Borrowed → Borrowed → Buffers
+atEntry planes pixels log scratch values mattes =
+    buffers (now (planes .entry)) (now (pixels .entry)) (now (log .entry))
+    (now (scratch .entry)) (now (values .entry)) (now (mattes .entry))
+
+abbrev pub atExit : Borrowed → Borrowed → Borrowed → Borrowed → Borrowed → Borrowed → Buffers
+atExit planes pixels log scratch values mattes =
+    buffers (now (planes .exit)) (now (pixels .exit)) (now (log .exit))
+    (now (scratch .exit)) (now (values .exit)) (now (mattes .exit))
+
+-- a plate of more cells in a plane than there is room for is lent nothing, and the plate then refuses it
+abbrev pub ifRoom : Size → ℕ → ℕ
+ifRoom z n = pick (ltb cellsTop (padded z)) 0 n
 
 abbrev pub cellsOf : Size → ℕ
-cellsOf z = upTo512 z (padded z)
+cellsOf z = ifRoom z (padded z)
 
 abbrev pub placesOf : Size → ℕ
-placesOf z = upTo512 z (places z)
+placesOf z = ifRoom z (places z)
+
+abbrev pub planesOf : Size → ℕ
+planesOf z = planesInAll * cellsOf z
+
+abbrev pub sumsOf : Size → ℕ
+sumsOf z = scratchPlanes * cellsOf z
 
 -- the front of a buffer is lent, and comes back
 abbrev pub back : ℕ → List ℕ → List ℕ → List ℕ
 back n front whole = front ++ drop n whole
 
-unfoldable pub lentOf : Size → Buffers → Lent
-lentOf z b = lent (take (14 * cellsOf z) (b .planes)) (take (placesOf z) (b .pixels)) (b .log)
+unfoldable pub frontOf : Size → Lent → Lent
+frontOf z l = lent (take (planesOf z) (l .planes)) (take (placesOf z) (l .pixels)) (l .log)
 
-unfoldable pub lentBack : Size → Lent → Buffers → Buffers
-lentBack z l b =
-    buffers (back (14 * cellsOf z) (l .planes) (b .planes)) (back (placesOf z) (l .pixels) (b .pixels)) (l .log)
-    (b .scratch) (b .values) (b .mattes)
+unfoldable pub frontBack : Size → Lent → Lent → Lent
+frontBack z front l =
+    lent (back (planesOf z) (front .planes) (l .planes)) (back (placesOf z) (front .pixels) (l .pixels)) (front .log)
 
 unfoldable pub viewsOf : Size → Buffers → Views
-viewsOf z b = views (take (3 * cellsOf z) (b .scratch)) (take (placesOf z) (b .values)) (take (placesOf z) (b .mattes))
+viewsOf z b = views (take (sumsOf z) (b .scratch)) (take (placesOf z) (b .values)) (take (placesOf z) (b .mattes))
 
 unfoldable pub viewsBack : Size → Views → Buffers → Buffers
 viewsBack z v b =
     buffers (b .planes) (b .pixels) (b .log)
-    (back (3 * cellsOf z) (v .scratch) (b .scratch))
+    (back (sumsOf z) (v .scratch) (b .scratch))
     (back (placesOf z) (v .values) (b .values))
     (back (placesOf z) (v .mattes) (b .mattes))
 
--- the lengths that the code of a record counts on: those of the arrays, and 4,096 bytes for the text
-pub record PlateRoom (planes pixels out : List ℕ) : Type 0 where
-  pub planes-are : length planes ≡ 7168
-  pub pixels-are : length pixels ≡ 512
-  pub out-room : 4096 ≤ length out
+-- planes, pixels and log of the buffers, and the buffers with others in their place
+abbrev pub plateOf : Buffers → Lent
+plateOf b = lent (b .planes) (b .pixels) (b .log)
 
-pub record PictureRoom (planes scratch values mattes out : List ℕ) : Type 0 where
-  pub planes-are : length planes ≡ 7168
-  pub scratch-is : length scratch ≡ 1536
-  pub values-are : length values ≡ 512
-  pub mattes-are : length mattes ≡ 512
-  pub out-room : 4096 ≤ length out
+abbrev pub holding : Buffers → Lent → Buffers
+holding b l = buffers (l .planes) (l .pixels) (l .log) (b .scratch) (b .values) (b .mattes)
 
-pub record PartRoom (z : Size) (planes values mattes out : List ℕ) : Type 0 where
-  pub planes-are : length planes ≡ 14 * cellsOf z
-  pub values-are : length values ≡ placesOf z
-  pub mattes-are : length mattes ≡ placesOf z
-  pub out-room : 4096 ≤ length out
+-- REQUESTS
+-- what a record asks of the plate
+abbrev pub putRequest : State → Ask → Request
+putRequest s a = ToPut (record { state = s; ask = a })
 
-pub record AllRoom (planes pixels scratch values mattes out : List ℕ) : Type 0 where
-  pub planes-are : length planes ≡ 7168
-  pub pixels-are : length pixels ≡ 512
-  pub scratch-is : length scratch ≡ 1536
-  pub values-are : length values ≡ 512
-  pub mattes-are : length mattes ≡ 512
-  pub out-room : 4096 ≤ length out
+abbrev pub requestSize : Request → Size
+requestSize (ToOpen z) = z
+requestSize (ToPut p) = p .state .size
+requestSize (ToUndo s) = s .size
+
+unfoldable pub requestCall : Request → Lent → Left
+requestCall (ToOpen z) l = openCall z l
+requestCall (ToPut p) l = putCall (p .state) (p .ask) l
+requestCall (ToUndo s) l = undoCall s l
+
+-- the call is lent the front of planes and pixels, and what it leaves there is taken back
+unfoldable pub requested : Request → Lent → Left
+requested q l =
+    let r = requestCall q (frontOf (requestSize q) l) in
+    record { answer = r .answer; kept = frontBack (requestSize q) (r .kept) l }
 
 -- RECORDS
--- what record K makes of where a run stands and of the buffers, and its text
+-- where a run stands after record K, and the record's text
+pub record Said : Type 0 where
+  pub stage : Stage
+  pub text : List ℕ
+
+abbrev pub said : Stage → List ℕ → Said
+said s t = record { stage = s; text = t }
+
+-- and the buffers
 pub record Did : Type 0 where
   pub stage : Stage
   pub buffers : Buffers
   pub text : List ℕ
 
-abbrev pub did : Stage → Buffers → List ℕ → Did
-did s b t = record { stage = s; buffers = b; text = t }
+abbrev pub did : Said → Buffers → Did
+did w b = record { stage = w .stage; buffers = b; text = w .text }
 
-abbrev pub stops : ℕ → Stop → Buffers → Did
-stops k s b = did Ended b (stopText k s)
+abbrev pub stoppedBy : ℕ → Stop → Said
+stoppedBy k s = said Ended (stopText k s)
 
 -- an open: refused by 1 it stops with 1, by another number with 16
-unfoldable pub openedBy : ℕ → ℕ → State → Buffers → Did
-openedBy k n s b = pick (eqb n 0) (did (Opened s) b []) (stops k (pick (eqb n 1) Sizes Cells) b)
-
-unfoldable pub openOn : ℕ → Size → Buffers → Did
-openOn k z b =
-    let l = openCall z (lentOf z b) in
-    openedBy k (outcomeNumber (l .answer .outcome)) (l .answer .state) (lentBack z (l .kept) b)
+unfoldable pub openedBy : ℕ → Answer → Said
+openedBy k a =
+    let n = outcomeNumber (a .outcome) in
+    pick (eqb n 0) (said (Opened (a .state)) []) (stoppedBy k (pick (eqb n 1) Sizes Cells))
 
 -- a put or an undo
-unfoldable pub answered : ℕ → Size → Left → Buffers → Did
-answered k z l b = did (Opened (l .answer .state)) (lentBack z (l .kept) b) (answerText k (outcomeNumber (l .answer .outcome)))
+abbrev pub answeredBy : ℕ → Answer → Said
+answeredBy k a = said (Opened (a .state)) (answerText k (outcomeNumber (a .outcome)))
 
-unfoldable pub putOn : ℕ → State → Ask → Buffers → Did
-putOn k s a b = answered k (sizeOf s) (putCall s a (lentOf (sizeOf s) b)) b
-
-unfoldable pub undoOn : ℕ → State → Buffers → Did
-undoOn k s b = answered k (sizeOf s) (undoCall s (lentOf (sizeOf s) b)) b
+-- a request, and what its answer says
+abbrev pub serving : (Answer → Said) → Request → Buffers → Did
+serving says q b = let l = requested q (plateOf b) in did (says (l .answer)) (holding b (l .kept))
 
 -- a show
 unfoldable pub shownText : ℕ → ℕ → ℕ → Outcome → List ℕ → List ℕ → List ℕ
 shownText k w h Accepted values mattes = showText w h values mattes
 shownText k w h (Refused f) values mattes = answerText k (refusalNumber f)
 
+abbrev pub shownBy : ℕ → Size → Answer → List ℕ → List ℕ → Said
+shownBy k z a values mattes = said (Opened (a .state)) (shownText k (z .width) (z .height) (a .outcome) values mattes)
+
 unfoldable pub showOn : ℕ → State → Buffers → Did
 showOn k s b =
-    let z = sizeOf s in
-    let v = showCall s (take (14 * cellsOf z) (b .planes)) (viewsOf z b) in
-    did (Opened (v .answer .state)) (viewsBack z (v .seen) b)
-    (shownText k (z .width) (z .height) (v .answer .outcome) (v .seen .values) (v .seen .mattes))
+    let z = s .size in
+    let v = showCall s (take (planesOf z) (b .planes)) (viewsOf z b) in
+    did (shownBy k z (v .answer) (v .seen .values) (v .seen .mattes)) (viewsBack z (v .seen) b)
 
--- record K where a run stands; a put with no shape asks for shape 6, which there is not
+-- record K where a run stands
 unfoldable pub recordOn : ℕ → Stage → Record → Buffers → Did
-recordOn k Ended r b = did Ended b []
-recordOn k Closed (Open a) b = openOn k (record { width = a .width; height = a .height; reach = a .reach }) b
-recordOn k Closed (Put p) b = stops k Order b
-recordOn k Closed (NoShape p) b = stops k Order b
-recordOn k Closed Undo b = stops k Order b
-recordOn k Closed Show b = stops k Order b
-recordOn k (Opened s) (Open a) b = stops k Order b
-recordOn k (Opened s) (Put p) b =
-    putOn k s (ask (p .x) (p .y) (p .pixel .value) (p .pixel .opacity) (numberOf (p .pixel .shape)) (p .pixel .radius)) b
-recordOn k (Opened s) (NoShape p) b = putOn k s (ask (p .x) (p .y) (p .value) 0 6 0) b
-recordOn k (Opened s) Undo b = undoOn k s b
+recordOn k Ended r b = did (said Ended []) b
+recordOn k Closed (Open z) b = serving (openedBy k) (ToOpen z) b
+recordOn k Closed (Put p) b = did (stoppedBy k Order) b
+recordOn k Closed (NoShape p) b = did (stoppedBy k Order) b
+recordOn k Closed Undo b = did (stoppedBy k Order) b
+recordOn k Closed Show b = did (stoppedBy k Order) b
+recordOn k (Opened s) (Open z) b = did (stoppedBy k Order) b
+recordOn k (Opened s) (Put p) b = serving (answeredBy k) (putRequest s (strokeAsk p)) b
+recordOn k (Opened s) (NoShape p) b = serving (answeredBy k) (putRequest s (shapelessAsk p)) b
+recordOn k (Opened s) Undo b = serving (answeredBy k) (ToUndo s) b
 recordOn k (Opened s) Show b = showOn k s b
-
--- what the code of a record leaves: the text stands at the start of what it is lent for it
-pub record DoneOut : Type 0 where
-  pub answer : Done
-  pub buffers : Buffers
-  pub out : List ℕ
-
-abbrev pub done : Done → Buffers → List ℕ → DoneOut
-done r b out = record { answer = r; buffers = b; out = out }
-
-abbrev pub doneOf : Did → List ℕ → DoneOut
-doneOf d out = done (record { stage = d .stage; written = length (d .text) }) (d .buffers) (written out 0 (d .text))
-
--- what the code of a show leaves, on just the parts that a plate wants
-pub record ShowDone (k : ℕ) (s : State) (v : Shown) (d : Done) (seen : Views) (out after : List ℕ) : Type 0 where
-  pub stage-is : d .stage ≡ Opened (v .answer .state)
-  pub seen-is : seen ≡ v .seen
-  pub wrote : Wrote out 0
-      (shownText k (s .width) (s .height) (v .answer .outcome) (v .seen .values) (v .seen .mattes))
-      after
-      (d .written)
 
 -- BYTES
 -- what comes of a machine: the machine after it, the buffers and the text
@@ -200,7 +211,7 @@ standing m s = machine s (m .kind) (m .held) (m .whole) (m .body) (m .count)
 abbrev pub doneBy : Machine → Did → Fed
 doneBy m d = fed (standing m (d .stage)) (d .buffers) (d .text)
 
--- what no run comes to ends without a word: a body of more than 9 bytes, or more than 2^64 - 1 records
+-- what no run comes to ends without a word: a body longer than the longest, or more than 2^64 - 1 records
 abbrev pub lost : Machine → Buffers → Fed
 lost m b = fed (standing m Ended) b []
 
@@ -213,9 +224,9 @@ unfoldable pub settledOf : Machine → Taken
 settledOf m = taken m (pick (ltb (m .held) (m .whole)) Wait Do)
 
 -- a byte of kind. 13: "unknown kind"
-unfoldable pub begunBy : Length → Machine → Taken
-begunBy unknown m = taken m Refuse
-begunBy (bytes n) m = settledOf (machine (m .stage) (m .kind) 0 n (m .body) (m .count))
+unfoldable pub begunBy : BodyLength → Machine → Taken
+begunBy NoKind m = taken m Refuse
+begunBy (Bytes n) m = settledOf (machine (m .stage) (m .kind) 0 n (m .body) (m .count))
 
 unfoldable pub begunOf : Machine → ℕ → Taken
 begunOf m x =
@@ -226,7 +237,7 @@ begunOf m x =
 -- a byte of a body
 unfoldable pub carriedOf : Machine → ℕ → Taken
 carriedOf m x =
-    pick (ltb (m .held) 9)
+    pick (ltb (m .held) longestBody)
     (settledOf (machine (m .stage) (m .kind) (m .held + 1) (m .whole) (set (m .body) (m .held) x) (m .count)))
     (taken m Lose)
 
@@ -237,7 +248,7 @@ takenOf m x = pick (ltb (m .held) (m .whole)) (carriedOf m x) (begunOf m x)
 unfoldable pub fedBy : Next → Machine → Buffers → Fed
 fedBy Wait m b = fed m b []
 fedBy Lose m b = lost m b
-fedBy Refuse m b = doneBy m (stops (m .count) Kind b)
+fedBy Refuse m b = doneBy m (did (stoppedBy (m .count) Kind) b)
 fedBy Do m b = doneBy m (recordOn (m .count) (m .stage) (recordOf (m .kind) (m .body)) b)
 
 abbrev pub fedTaken : Taken → Buffers → Fed
@@ -273,11 +284,11 @@ abbrev pub handed : Machine → ℕ → Buffers → List ℕ → Handed
 handed m n b out = record { machine = m; buffers = b; out = out; written = n }
 
 abbrev pub handOut : Fed → List ℕ → Handed
-handOut f out = handed (f .machine) (length (f .text)) (f .buffers) (written out 0 (f .text))
+handOut f out = handed (f .machine) (length (f .text)) (f .buffers) (withText out 0 (f .text))
 
--- a call that is lent less than 4,096 bytes for its text loses the run
+-- a call that is lent less than the room for its text loses the run
 unfoldable pub feedCall : Machine → ℕ → Buffers → List ℕ → Handed
-feedCall m x b out = handOut (pick (ltb (length out) 4096) (lost m b) (feedOf m x b)) out
+feedCall m x b out = handOut (pick (ltb (length out) textRoom) (lost m b) (feedOf m x b)) out
 
 -- and a call of finish
 pub record Closing : Type 0 where
@@ -288,19 +299,19 @@ abbrev pub closing : List ℕ → ℕ → Closing
 closing out n = record { out = out; written = n }
 
 abbrev pub closeWith : List ℕ → List ℕ → Closing
-closeWith t out = closing (written out 0 t) (length t)
+closeWith t out = closing (withText out 0 t) (length t)
 
 unfoldable pub finishCall : Machine → List ℕ → Closing
-finishCall m out = closeWith (pick (ltb (length out) 4096) [] (finishOf m)) out
+finishCall m out = closeWith (pick (ltb (length out) textRoom) [] (finishOf m)) out
 
 -- A RUN
 -- the machine before the first byte
 abbrev pub fresh : Machine
-fresh = machine Closed 0 0 0 (zeros 9) 0
+fresh = machine Closed 0 0 0 (zeros longestBody) 0
 
 -- "zeroed planes and scratch, arrays of 7,168 and 1,536 cells"; "The log has 64 entries."
 abbrev pub zeroed : Buffers
-zeroed = buffers (zeros 7168) (zeros 512) (zeros 64) (zeros 1536) (zeros 512) (zeros 512)
+zeroed = buffers (zeros planesRoom) (zeros cellsTop) (zeros logRoom) (zeros scratchRoom) (zeros cellsTop) (zeros cellsTop)
 
 -- one byte after another, and the text so far
 abbrev pub fedThen : List ℕ → Fed → Fed

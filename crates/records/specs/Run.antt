@@ -3,14 +3,15 @@ use mathlib.Core.List.{List, [], _++_}
 use Prim.Native.Nat.{ℕ, zero, suc, _+_}
 use lib.Dec.{ltb}
 use Rattle.kernels.specs.Choice.{pick}
-use Rattle.kernels.specs.Shape.{numberOf}
-use Rattle.plate.specs.Layout.{Size, padded}
+use Rattle.plate.specs.Layout.{padded}
+use Rattle.plate.specs.declared.size.Size.{Size}
 use Rattle.plate.specs.declared.state.Outcome.{Outcome}
 use Rattle.plate.specs.declared.state.Outcome.the-variants.{Accepted, Refused}
-use Rattle.plate.specs.Refusal.{sizesCheck, ask}
+use Rattle.plate.specs.Refusal.{sizesCheck}
 use Rattle.plate.specs.Notebook.{Book, openBook, Pictures, none, both, Report, Turn, bookPut, bookUndo, bookShowBy}
-use Rattle.records.specs.Text.{stopped, refused, numbered, doneLine, showText}
-use Rattle.records.specs.Record.{Record, Open, Put, NoShape, Undo, Show, Stop, Sizes, Order, Cells, stopNumber, Items, ended, stops, next, itemsOf}
+use Rattle.records.specs.Fixed.{cellsTop, logRoom}
+use Rattle.records.specs.Text.{stoppedWord, refusedWord, numbered, doneLine, showText}
+use Rattle.records.specs.Record.{Record, Open, Put, NoShape, Undo, Show, Stop, Sizes, Order, Cells, stopNumber, strokeAsk, shapelessAsk, Items, over, broken, next, itemsOf}
 
 -- no plate is open yet, or this notebook is
 pub data Desk : Type 0 where
@@ -24,7 +25,7 @@ pub data Act : Type 0 where
 
 -- "Checks: 13, 14, 15, then 1, 16, the rest." "The log has 64 entries."
 abbrev pub cellsCheck : Size → Act
-cellsCheck z = pick (ltb 512 (padded z)) (stop Cells) (go [] (openBook z 64))
+cellsCheck z = pick (ltb cellsTop (padded z)) (stop Cells) (go [] (openBook z logRoom))
 
 abbrev pub opensBy : Outcome → Size → Act
 opensBy (Refused f) z = stop Sizes
@@ -36,7 +37,7 @@ opens z = opensBy (sizesCheck z Accepted) z
 -- "others print `refused N at K` and go on"; "An accepted open, put or undo prints nothing."
 unfoldable pub answerText : ℕ → ℕ → List ℕ
 answerText k zero = []
-answerText k (suc n) = numbered refused (suc n) k
+answerText k (suc n) = numbered refusedWord (suc n) k
 
 unfoldable pub pictureText : Size → Pictures → List ℕ
 pictureText z none = []
@@ -46,27 +47,25 @@ pictureText z (both values mattes) = showText (z .width) (z .height) values matt
 unfoldable pub reportText : ℕ → Size → Report → List ℕ
 reportText k z r = answerText k (r .number) ++ pictureText z (r .pictures)
 
-abbrev pub answered : ℕ → Book → Turn → Act
-answered k b t = go (reportText k (b .size) (t .report)) (t .book)
+abbrev pub noted : ℕ → Book → Turn → Act
+noted k b t = go (reportText k (b .size) (t .report)) (t .book)
 
--- record K on a desk; a shape that names none is asked for by a number above 5, so that 4 and 5 come before 6
+-- record K on a desk
 unfoldable pub act : ℕ → Desk → Record → Act
-act k closed (Open a) = opens (record { width = a .width; height = a .height; reach = a .reach })
+act k closed (Open z) = opens z
 act k closed (Put p) = stop Order
 act k closed (NoShape p) = stop Order
 act k closed Undo = stop Order
 act k closed Show = stop Order
-act k (opened b) (Open a) = stop Order
-act k (opened b) (Put p) =
-    answered k b
-    (bookPut b (ask (p .x) (p .y) (p .pixel .value) (p .pixel .opacity) (numberOf (p .pixel .shape)) (p .pixel .radius)))
-act k (opened b) (NoShape p) = answered k b (bookPut b (ask (p .x) (p .y) (p .value) 0 6 0))
-act k (opened b) Undo = answered k b (bookUndo b)
-act k (opened b) Show = answered k b (bookShowBy Accepted b)
+act k (opened b) (Open z) = stop Order
+act k (opened b) (Put p) = noted k b (bookPut b (strokeAsk p))
+act k (opened b) (NoShape p) = noted k b (bookPut b (shapelessAsk p))
+act k (opened b) Undo = noted k b (bookUndo b)
+act k (opened b) Show = noted k b (bookShowBy Accepted b)
 
 -- "Numbers 1 and 13 to 16 print `stopped N at K` and end"; "K counts records from 1."
 abbrev pub stopText : ℕ → Stop → List ℕ
-stopText k s = numbered stopped (stopNumber s) k
+stopText k s = numbered stoppedWord (stopNumber s) k
 
 -- the text of what a record does, and what comes after it
 abbrev pub thenText : ℕ → Act → (Desk → List ℕ) → List ℕ
@@ -76,8 +75,8 @@ thenText k (go text b) rest = text ++ rest (opened b)
 -- the text of a run that has done k records; "Input that ends after a whole record, or is empty, prints `done` and the record
 -- count."
 unfoldable pub textFrom : ℕ → Desk → Items → List ℕ
-textFrom k d ended = doneLine k
-textFrom k d (stops s) = stopText (k + 1) s
+textFrom k d over = doneLine k
+textFrom k d (broken s) = stopText (k + 1) s
 textFrom k d (next r items) = thenText (k + 1) (act (k + 1) d r) (λ e. textFrom (k + 1) e items)
 
 -- the text of an input

@@ -1,5 +1,7 @@
 // Records: raw bytes in, text out.
+pub mod fixed;
 pub mod machine;
 pub mod perform;
 pub mod record;
+mod request;
 mod text;

@@ -1,16 +1,27 @@
 // The machine: it takes the input a byte at a time, and hands out the text to write. Its buffers are lent to each call.
+use crate::fixed::BODY;
+use crate::fixed::Body;
+use crate::fixed::Log;
+use crate::fixed::Mattes;
+use crate::fixed::Pixels;
+use crate::fixed::Planes;
+use crate::fixed::Scratch;
+use crate::fixed::TEXT;
+use crate::fixed::Values;
 use crate::perform::Stage;
 use crate::perform::perform;
 use crate::perform::stop;
 use crate::record;
-use crate::record::Length;
+use crate::record::BodyLength;
 use crate::record::Stop;
 use crate::text;
 ghost use mathlib.Core.Path.{_≡_};
 ghost use Prim.Native.Nat.{_≤_};
 ghost use lib.ListN.{length};
-ghost use Rattle.records.specs.Written.{Wrote};
-ghost use Rattle.records.specs.Machine.{buffers, AllRoom, endedAt, fresh, standing, settledOf, begunOf, carriedOf, takenOf, fedBy, Do, fedTaken, handed, handOut, feedCall, endText, closing, finishCall};
+ghost use Rattle.records.specs.Fixed.{textRoom};
+ghost use Rattle.records.specs.code.Written.{Wrote};
+ghost use Rattle.records.specs.code.Room.{AllRoom};
+ghost use Rattle.records.specs.Machine.{atEntry, atExit, endedAt, fresh, standing, settledOf, begunOf, carriedOf, takenOf, fedBy, Do, fedTaken, handed, handOut, feedCall, endText, closing, finishCall};
 
 // A run between two bytes: where it stands, the record that is being read (its kind, how many bytes of its body are held, and of
 // how many), and how many records have begun.
@@ -19,7 +30,7 @@ pub struct Machine {
     pub kind: u8,
     pub held: usize,
     pub whole: usize,
-    pub body: [u8; 9],
+    pub body: Body,
     pub count: u64,
 }
 
@@ -52,7 +63,7 @@ pub fn start() -> Machine
         kind: 0,
         held: 0,
         whole: 0,
-        body: [0; 9],
+        body: [0; BODY],
         count: 0,
     }
 }
@@ -114,7 +125,7 @@ fn begun(m: Machine, byte: u8) -> Taken
     }
     let count = m.count + 1;
     match record::body_length(byte) {
-        Length::Bytes(n) => settled(Machine {
+        BodyLength::Bytes(n) => settled(Machine {
             stage: stage,
             kind: byte,
             held: 0,
@@ -122,7 +133,7 @@ fn begun(m: Machine, byte: u8) -> Taken
             body: body,
             count: count,
         }),
-        Length::Unknown => Taken {
+        BodyLength::NoKind => Taken {
             machine: Machine {
                 stage: stage,
                 kind: byte,
@@ -143,7 +154,7 @@ fn carried(m: Machine, byte: u8) -> Taken
     let stage = m.stage;
     let mut body = m.body;
     let held = m.held;
-    if 9 <= held {
+    if BODY <= held {
         return Taken {
             machine: m,
             next: Next::Lose,
@@ -182,7 +193,7 @@ fn complete(
     out: &mut [u8],
 ) -> Fed
     requires { ⌜ AllRoom (now planes) (now pixels) (now scratch) (now values) (now mattes) (now out) ⌝ }
-    ensures { λ r. ⌜ handed (r .machine) (r .written) (buffers (now (planes .exit)) (now (pixels .exit)) (now (log .exit)) (now (scratch .exit)) (now (values .exit)) (now (mattes .exit))) (now (out .exit)) ≡ handOut (fedBy Do m (buffers (now (planes .entry)) (now (pixels .entry)) (now (log .entry)) (now (scratch .entry)) (now (values .entry)) (now (mattes .entry)))) (now (out .entry)) ⌝ }
+    ensures { λ r. ⌜ handed (r .machine) (r .written) (atExit planes pixels log scratch values mattes) (now (out .exit)) ≡ handOut (fedBy Do m (atEntry planes pixels log scratch values mattes)) (now (out .entry)) ⌝ }
 {
     let stage = m.stage;
     let body = m.body;
@@ -218,7 +229,7 @@ fn follow(
     out: &mut [u8],
 ) -> Fed
     requires { ⌜ AllRoom (now planes) (now pixels) (now scratch) (now values) (now mattes) (now out) ⌝ }
-    ensures { λ r. ⌜ handed (r .machine) (r .written) (buffers (now (planes .exit)) (now (pixels .exit)) (now (log .exit)) (now (scratch .exit)) (now (values .exit)) (now (mattes .exit))) (now (out .exit)) ≡ handOut (fedTaken t (buffers (now (planes .entry)) (now (pixels .entry)) (now (log .entry)) (now (scratch .entry)) (now (values .entry)) (now (mattes .entry)))) (now (out .entry)) ⌝ }
+    ensures { λ r. ⌜ handed (r .machine) (r .written) (atExit planes pixels log scratch values mattes) (now (out .exit)) ≡ handOut (fedTaken t (atEntry planes pixels log scratch values mattes)) (now (out .entry)) ⌝ }
 {
     let m = t.machine;
     let next = t.next;
@@ -243,23 +254,23 @@ fn follow(
     }
 }
 
-// A byte of the input: the machine after it, with its text at the start of `out`. A call that is lent less than 4,096 bytes for
-// the text ends the run.
+// A byte of the input: the machine after it, with its text at the start of `out`. A call that is lent less than
+// `TEXT` bytes for it ends the run.
 pub fn feed(
     m: Machine,
     byte: u8,
-    planes: &mut [u64; 7168],
-    pixels: &mut [u64; 512],
-    log: &mut [u64; 64],
-    scratch: &mut [u64; 1536],
-    values: &mut [u16; 512],
-    mattes: &mut [u8; 512],
+    planes: &mut Planes,
+    pixels: &mut Pixels,
+    log: &mut Log,
+    scratch: &mut Scratch,
+    values: &mut Values,
+    mattes: &mut Mattes,
     out: &mut [u8],
 ) -> Fed
-    ensures { λ r. ⌜ handed (r .machine) (r .written) (buffers (now (planes .exit)) (now (pixels .exit)) (now (log .exit)) (now (scratch .exit)) (now (values .exit)) (now (mattes .exit))) (now (out .exit)) ≡ feedCall m byte (buffers (now (planes .entry)) (now (pixels .entry)) (now (log .entry)) (now (scratch .entry)) (now (values .entry)) (now (mattes .entry))) (now (out .entry)) ⌝ }
+    ensures { λ r. ⌜ handed (r .machine) (r .written) (atExit planes pixels log scratch values mattes) (now (out .exit)) ≡ feedCall m byte (atEntry planes pixels log scratch values mattes) (now (out .entry)) ⌝ }
     ensures { λ r. ⌜ r .written ≤ length (now (out .entry)) ⌝ }
 {
-    if out.len() < 4096 {
+    if out.len() < TEXT {
         return Fed {
             machine: moved(m, Stage::Ended),
             written: 0,
@@ -285,7 +296,7 @@ pub fn feed(
 
 // The end of a run that has not stopped: 14 where a body is cut short, else the record count.
 fn end(m: Machine, out: &mut [u8]) -> usize
-    requires { ⌜ 4096 ≤ length (now out) ⌝ }
+    requires { ⌜ textRoom ≤ length (now out) ⌝ }
     ensures { λ r. ⌜ Wrote (now (out .entry)) 0 (endText m) (now (out .exit)) r ⌝ }
 {
     if m.held < m.whole {
@@ -300,7 +311,7 @@ pub fn finish(m: Machine, out: &mut [u8]) -> usize
     ensures { λ r. ⌜ closing (now (out .exit)) r ≡ finishCall m (now (out .entry)) ⌝ }
     ensures { λ r. ⌜ r ≤ length (now (out .entry)) ⌝ }
 {
-    if out.len() < 4096 {
+    if out.len() < TEXT {
         return 0;
     }
     if ended(m) {

@@ -1,24 +1,21 @@
 // Records, as they are read from the input.
+use crate::fixed::Body;
+use crate::fixed::OPEN_BODY;
+use crate::fixed::PUT_BODY;
 use kernels::ShapeRead;
+use plate::size::Size;
 use plate::word::Pixel;
 ghost use mathlib.Core.Path.{_≡_};
 ghost use Prim.Native.Nat.{_+_, _*_, _<_};
 ghost use lib.ListN.{getD};
 ghost use Rattle.kernels.specs.Shape.{shapeOf};
-ghost use Rattle.records.specs.Record.{stopNumber, lengthOf, bodyLength, putRecord, recordOf};
+ghost use Rattle.records.specs.Record.{stopNumber, bodyLength, putRecord, recordOf};
 
 // A put's place, and the pixel that it asks for.
 pub struct Stroke {
     pub x: usize,
     pub y: usize,
     pub pixel: Pixel,
-}
-
-// The sizes that an open asks for.
-pub struct Asked {
-    pub width: usize,
-    pub height: usize,
-    pub reach: usize,
 }
 
 // A put whose shape byte names no shape: what is left to refuse it by.
@@ -30,7 +27,7 @@ pub struct Shapeless {
 
 // One record with its whole body.
 pub enum Record {
-    Open(Asked),
+    Open(Size),
     Put(Stroke),
     NoShape(Shapeless),
     Undo,
@@ -47,9 +44,9 @@ pub enum Stop {
 }
 
 // The bytes of a kind's body, or that there is no such kind.
-pub enum Length {
+pub enum BodyLength {
     Bytes(usize),
-    Unknown,
+    NoKind,
 }
 
 // The number of a stop in the paper's table.
@@ -66,15 +63,15 @@ pub(crate) fn stop_number(s: Stop) -> u64
 }
 
 // The length of a kind's body.
-pub(crate) fn body_length(kind: u8) -> Length
-    ensures { λ r. ⌜ lengthOf r ≡ bodyLength kind ⌝ }
+pub(crate) fn body_length(kind: u8) -> BodyLength
+    ensures { λ r. ⌜ r ≡ bodyLength kind ⌝ }
 {
     match kind {
-        1 => Length::Bytes(5),
-        2 => Length::Bytes(9),
-        3 => Length::Bytes(0),
-        4 => Length::Bytes(0),
-        _ => Length::Unknown,
+        1 => BodyLength::Bytes(OPEN_BODY),
+        2 => BodyLength::Bytes(PUT_BODY),
+        3 => BodyLength::Bytes(0),
+        4 => BodyLength::Bytes(0),
+        _ => BodyLength::NoKind,
     }
 }
 
@@ -100,7 +97,7 @@ fn size(low: u8, high: u8) -> usize
 }
 
 // A put, from its body: without a shape where its byte names none.
-fn read_put(body: [u8; 9]) -> Record
+fn read_put(body: Body) -> Record
     ensures { λ r. ⌜ r ≡ putRecord (shapeOf (getD body 7 0)) body ⌝ }
 {
     let x = size(body[0], body[1]);
@@ -126,11 +123,11 @@ fn read_put(body: [u8; 9]) -> Record
 }
 
 // The record of a known kind, from its body. The bytes past a body that is shorter are not looked at.
-pub(crate) fn read(kind: u8, body: [u8; 9]) -> Record
+pub(crate) fn read(kind: u8, body: Body) -> Record
     ensures { λ r. ⌜ r ≡ recordOf kind body ⌝ }
 {
     if kind == 1 {
-        return Record::Open(Asked {
+        return Record::Open(Size {
             width: size(body[0], body[1]),
             height: size(body[2], body[3]),
             reach: body[4] as usize,

@@ -4,7 +4,8 @@ ghost use mathlib.Core.List.{[], _∷_};
 ghost use Prim.Native.Nat.{_+_, _*_, _^_, _<_, _≤_};
 ghost use lib.ListN.{length};
 ghost use Rattle.records.specs.Text.{decimal, space, numbered, doneLine, headLine, cellText, rowText, rowsText, showText};
-ghost use Rattle.records.specs.Written.{Wrote, gapText};
+ghost use Rattle.records.specs.code.Written.{Wrote, WroteIn, gapText};
+ghost use Rattle.records.specs.code.Room.{lineRoom, cellRoom, rowRoom, rowsRoom, CellsRoom};
 
 // One byte.
 fn byte(out: &mut [u8], at: usize, b: u8) -> usize
@@ -21,10 +22,10 @@ fn number(out: &mut [u8], at: usize, n: u64) -> usize
     ensures { λ r. ⌜ Wrote (now (out .entry)) at (decimal n) (now (out .exit)) r ⌝ }
 {
     if n < 10 {
-        return byte(out, at, 48 + n as u8);
+        return byte(out, at, b'0' + n as u8);
     }
     let next = number(out, at, n / 10);
-    byte(out, next, 48 + (n % 10) as u8)
+    byte(out, next, b'0' + (n % 10) as u8)
 }
 
 // A word.
@@ -51,7 +52,7 @@ fn spaced(out: &mut [u8], at: usize, n: u64) -> usize
 
 // The line of a stop or a refusal, from the start on: a word, a number, and the record that it came at.
 pub(crate) fn line(out: &mut [u8], w: &[u8], n: u64, k: u64) -> usize
-    requires { ⌜ length (now w) + 48 ≤ length (now out) ⌝ }
+    requires { ⌜ length (now w) + lineRoom ≤ length (now out) ⌝ }
     ensures { λ r. ⌜ Wrote (now (out .entry)) 0 (numbered (now (w .entry)) n k) (now (out .exit)) r ⌝ }
 {
     let one = word(out, 0, w);
@@ -63,7 +64,7 @@ pub(crate) fn line(out: &mut [u8], w: &[u8], n: u64, k: u64) -> usize
 
 // The last line of a whole input.
 pub(crate) fn done(out: &mut [u8], k: u64) -> usize
-    requires { ⌜ 48 ≤ length (now out) ⌝ }
+    requires { ⌜ lineRoom ≤ length (now out) ⌝ }
     ensures { λ r. ⌜ Wrote (now (out .entry)) 0 (doneLine k) (now (out .exit)) r ⌝ }
 {
     let one = word(out, 0, b"done");
@@ -73,9 +74,8 @@ pub(crate) fn done(out: &mut [u8], k: u64) -> usize
 
 // The first line of a show.
 fn head(out: &mut [u8], w: u64, h: u64) -> usize
-    requires { ⌜ 48 ≤ length (now out) ⌝ }
-    ensures { λ r. ⌜ Wrote (now (out .entry)) 0 (headLine w h) (now (out .exit)) r ⌝ }
-    ensures { λ r. ⌜ r ≤ 48 ⌝ }
+    requires { ⌜ lineRoom ≤ length (now out) ⌝ }
+    ensures { λ r. ⌜ WroteIn lineRoom (now (out .entry)) 0 (headLine w h) (now (out .exit)) r ⌝ }
 {
     let one = word(out, 0, b"plate");
     let two = spaced(out, one, w);
@@ -96,11 +96,10 @@ fn wide16(v: u16) -> u64
     v as u64
 }
 
-// The cell at a place: at most 5 and 3 digits, and the slash between.
+// The cell at a place.
 fn cell(out: &mut [u8], at: usize, values: &[u16], mattes: &[u8], i: usize) -> usize
-    requires { ⌜ (at + 9 ≤ length (now out)) × (i < length (now values)) × (i < length (now mattes)) ⌝ }
-    ensures { λ r. ⌜ Wrote (now (out .entry)) at (cellText (now (values .entry)) (now (mattes .entry)) i) (now (out .exit)) r ⌝ }
-    ensures { λ r. ⌜ r ≤ at + 9 ⌝ }
+    requires { ⌜ CellsRoom (at + cellRoom) i 1 (now out) (now values) (now mattes) ⌝ }
+    ensures { λ r. ⌜ WroteIn cellRoom (now (out .entry)) at (cellText (now (values .entry)) (now (mattes .entry)) i) (now (out .exit)) r ⌝ }
 {
     let value = wide16(values[i]);
     let matte = wide8(mattes[i]);
@@ -112,8 +111,7 @@ fn cell(out: &mut [u8], at: usize, values: &[u16], mattes: &[u8], i: usize) -> u
 // A space before each cell of a row but the first.
 fn gap(out: &mut [u8], at: usize, j: usize) -> usize
     requires { ⌜ at < length (now out) ⌝ }
-    ensures { λ r. ⌜ Wrote (now (out .entry)) at (gapText j) (now (out .exit)) r ⌝ }
-    ensures { λ r. ⌜ r ≤ at + 1 ⌝ }
+    ensures { λ r. ⌜ WroteIn 1 (now (out .entry)) at (gapText j) (now (out .exit)) r ⌝ }
 {
     if j == 0 {
         return at;
@@ -121,11 +119,10 @@ fn gap(out: &mut [u8], at: usize, j: usize) -> usize
     byte(out, at, b' ')
 }
 
-// A row of w cells from a place on: at most 10 bytes for each.
+// A row of w cells from a place on.
 fn row(out: &mut [u8], at: usize, values: &[u16], mattes: &[u8], from: usize, w: usize) -> usize
-    requires { ⌜ (at + 10 * w ≤ length (now out)) × (from + w ≤ length (now values)) × (from + w ≤ length (now mattes)) ⌝ }
-    ensures { λ r. ⌜ Wrote (now (out .entry)) at (rowText (now (values .entry)) (now (mattes .entry)) from w) (now (out .exit)) r ⌝ }
-    ensures { λ r. ⌜ r ≤ at + 10 * w ⌝ }
+    requires { ⌜ CellsRoom (at + rowRoom w) from w (now out) (now values) (now mattes) ⌝ }
+    ensures { λ r. ⌜ WroteIn (rowRoom w) (now (out .entry)) at (rowText (now (values .entry)) (now (mattes .entry)) from w) (now (out .exit)) r ⌝ }
 {
     let mut next = at;
     for j in 0..w {
@@ -137,7 +134,7 @@ fn row(out: &mut [u8], at: usize, values: &[u16], mattes: &[u8], from: usize, w:
 
 // The rows of a show, a line for each.
 fn rows(out: &mut [u8], at: usize, values: &[u16], mattes: &[u8], w: usize, h: usize) -> usize
-    requires { ⌜ (at + (10 * w + 1) * h ≤ length (now out)) × (h * w ≤ length (now values)) × (h * w ≤ length (now mattes)) ⌝ }
+    requires { ⌜ CellsRoom (at + rowsRoom w h) 0 (h * w) (now out) (now values) (now mattes) ⌝ }
     ensures { λ r. ⌜ Wrote (now (out .entry)) at (rowsText (now (values .entry)) (now (mattes .entry)) w h) (now (out .exit)) r ⌝ }
 {
     let mut next = at;
@@ -152,7 +149,7 @@ fn rows(out: &mut [u8], at: usize, values: &[u16], mattes: &[u8], w: usize, h: u
 
 // A show, from the start on.
 pub(crate) fn show(out: &mut [u8], values: &[u16], mattes: &[u8], w: usize, h: usize) -> usize
-    requires { ⌜ (48 + (10 * w + 1) * h ≤ length (now out)) × (h * w ≤ length (now values)) × (h * w ≤ length (now mattes)) ⌝ }
+    requires { ⌜ CellsRoom (lineRoom + rowsRoom w h) 0 (h * w) (now out) (now values) (now mattes) ⌝ }
     ensures { λ r. ⌜ Wrote (now (out .entry)) 0 (showText w h (now (values .entry)) (now (mattes .entry))) (now (out .exit)) r ⌝ }
 {
     let next = head(out, w as u64, h as u64);

@@ -2,6 +2,16 @@
 // byte of its input; whatever else stands below the name is passed over. It prints each name, and then the text of the case's run.
 use libc::STDIN_FILENO;
 use libc::STDOUT_FILENO;
+use records::fixed::CELLS;
+use records::fixed::LOG;
+use records::fixed::Log;
+use records::fixed::Mattes;
+use records::fixed::PLANE_CELLS;
+use records::fixed::Pixels;
+use records::fixed::Planes;
+use records::fixed::SCRATCH_CELLS;
+use records::fixed::Scratch;
+use records::fixed::Values;
 use records::machine::Machine;
 ghost use Prim.Native.Nat.{_≤_, _<_};
 ghost use lib.ListN.{length};
@@ -33,12 +43,12 @@ fn digit(b: u8) -> u8 {
 fn feed(
     machine: Machine,
     byte: u8,
-    planes: &mut [u64; 7168],
-    pixels: &mut [u64; 512],
-    log: &mut [u64; 64],
-    scratch: &mut [u64; 1536],
-    values: &mut [u16; 512],
-    mattes: &mut [u8; 512],
+    planes: &mut Planes,
+    pixels: &mut Pixels,
+    log: &mut Log,
+    scratch: &mut Scratch,
+    values: &mut Values,
+    mattes: &mut Mattes,
     text: &mut [u8],
 ) -> Machine {
     let fed = records::machine::feed(
@@ -61,12 +71,12 @@ fn feed(
 fn step(
     run: Run,
     b: u8,
-    planes: &mut [u64; 7168],
-    pixels: &mut [u64; 512],
-    log: &mut [u64; 64],
-    scratch: &mut [u64; 1536],
-    values: &mut [u16; 512],
-    mattes: &mut [u8; 512],
+    planes: &mut Planes,
+    pixels: &mut Pixels,
+    log: &mut Log,
+    scratch: &mut Scratch,
+    values: &mut Values,
+    mattes: &mut Mattes,
     text: &mut [u8],
 ) -> Run {
     let machine = run.machine;
@@ -103,12 +113,12 @@ fn step(
 // The characters of a case, on buffers of its own.
 fn characters(
     case: &[u8],
-    planes: &mut [u64; 7168],
-    pixels: &mut [u64; 512],
-    log: &mut [u64; 64],
-    scratch: &mut [u64; 1536],
-    values: &mut [u16; 512],
-    mattes: &mut [u8; 512],
+    planes: &mut Planes,
+    pixels: &mut Pixels,
+    log: &mut Log,
+    scratch: &mut Scratch,
+    values: &mut Values,
+    mattes: &mut Mattes,
     text: &mut [u8],
 ) -> Machine {
     let machine = records::machine::start();
@@ -134,12 +144,12 @@ fn characters(
 
 // A case from its first character to the end of its input.
 fn run_case(case: &[u8]) {
-    let mut planes = [0u64; 7168];
-    let mut pixels = [0u64; 512];
-    let mut log = [0u64; 64];
-    let mut scratch = [0u64; 1536];
-    let mut values = [0u16; 512];
-    let mut mattes = [0u8; 512];
+    let mut planes = [0u64; PLANE_CELLS];
+    let mut pixels = [0u64; CELLS];
+    let mut log = [0u64; LOG];
+    let mut scratch = [0u64; SCRATCH_CELLS];
+    let mut values = [0u16; CELLS];
+    let mut mattes = [0u8; CELLS];
     let mut text = io::buffer();
     let machine = characters(
         case,

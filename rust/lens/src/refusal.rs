@@ -9,21 +9,21 @@ use std::fmt;
 /// buffers and the type of shapes rule them out. They are for users of [`raw`](crate::raw).
 #[derive(Clone, Copy, Debug, PartialEq, Eq, Hash)]
 pub enum Refusal {
-    Sizes,
-    Lengths,
-    LogCount,
-    Place,
-    Value,
-    Shape,
-    Radius,
-    LogFull,
-    LogEmpty,
-    StoredWord,
-    Lens,
-    Depth,
+    Sizes = 1,
+    Lengths = 2,
+    LogCount = 3,
+    Place = 4,
+    Value = 5,
+    Shape = 6,
+    Radius = 7,
+    LogFull = 8,
+    LogEmpty = 9,
+    StoredWord = 10,
+    Lens = 11,
+    Depth = 12,
 }
 
-/// In the order of their numbers, from 1.
+/// All of them. Their numbers need not follow one another.
 const ALL: [Refusal; 12] = [
     Refusal::Sizes,
     Refusal::Lengths,
@@ -40,14 +40,15 @@ const ALL: [Refusal; 12] = [
 ];
 
 impl Refusal {
-    /// The number in the paper's table, 1 to 12.
+    /// The number in the paper's table.
     pub fn number(self) -> u32 {
-        self as u32 + 1
+        self as u32
     }
 
-    /// The refusal of a number; none for 0, which means accepted, and beyond 12.
+    /// The refusal of a number; none for 0, which means accepted, nor for a number that no
+    /// call of the plate answers.
     pub fn from_number(number: u32) -> Option<Refusal> {
-        ALL.get((number as usize).checked_sub(1)?).copied()
+        ALL.into_iter().find(|refusal| refusal.number() == number)
     }
 }
 
@@ -93,10 +94,17 @@ mod tests {
 
     #[test]
     fn numbers_go_both_ways() {
-        for number in 1..=12 {
-            assert_eq!(Refusal::from_number(number).map(Refusal::number), Some(number));
+        for refusal in ALL {
+            assert_eq!(Refusal::from_number(refusal.number()), Some(refusal));
         }
-        assert_eq!(Refusal::from_number(0), None);
-        assert_eq!(Refusal::from_number(13), None);
+    }
+
+    #[test]
+    fn other_numbers_are_no_refusals() {
+        let known = ALL.map(Refusal::number);
+        for number in (0..100).filter(|number| !known.contains(number)) {
+            assert_eq!(Refusal::from_number(number), None, "number {number}");
+        }
+        assert!(!known.contains(&0));
     }
 }

@@ -1,14 +1,15 @@
--- Each turn leaves at most 61,440 bytes of text.
+-- Each turn leaves room for the text of a record.
 use mathlib.Core.Path.{_≡_}
 use Prim.Native.Nat.{_-_, _≤_}
 use lib.ListN.{length}
+use Rattle.lens_records.specs.Fixed.{fullFrom}
 use borrow.Author.Needs.{needs}
 use Rattle.lens_records.proofs.part.Statement.{statement}
 use Rattle.lens_records.proofs.part.Tie as tie
 
 abbrev Inv-loop : tie.InvT-loop
 Inv-loop input planes₀ pixels₀ log₀ scratch₀ values₀ mattes₀ text₀ now₀ i₀ i-end planes pixels log scratch values mattes text now i =
-    (i ≤ length input) × (now .used ≤ 61440) × (length text ≡ length text₀)
+    (i ≤ length input) × (now .used ≤ fullFrom) × (length text ≡ length text₀)
 
 abbrev μ-loop : tie.MeasureT-loop
 μ-loop input planes₀ pixels₀ log₀ scratch₀ values₀ mattes₀ text₀ now₀ i₀ i-end planes pixels log scratch values mattes text now i =

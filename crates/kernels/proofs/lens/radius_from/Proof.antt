@@ -5,7 +5,7 @@ use native.Mathlib.Omega.{arith}
 use borrow.Author.Needs.{needs}
 use borrow.Author.Tests.{not-true, not-false}
 use Rattle.kernels.specs.Lens.{lawfulLens, Pixels}
-use Rattle.kernels.proofs.Lenses.{no-lens, no-depth, in-pixels}
+use Rattle.kernels.proofs.lenses.ThinLens.{no-lens, no-depth, in-pixels}
 use Rattle.kernels.proofs.lens.radius_from.Statement.{statement}
 use Rattle.kernels.proofs.lens.radius_from.Tie as tie
 

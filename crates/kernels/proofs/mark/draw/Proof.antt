@@ -3,10 +3,11 @@ use mathlib.Core.Path.{_≡_}
 use Prim.Native.Nat.{ℕ, _+_, _*_, _-_}
 use native.Mathlib.Omega.{arith}
 use borrow.Author.Needs.{needs}
+use Rattle.kernels.specs.Fixed.{level, secondBox, thirdBox, margin}
 use Rattle.kernels.specs.Tap.{half}
 use Rattle.kernels.specs.Mark.{tapMarks, hexagonMarks, octagonMarks}
-use Rattle.kernels.specs.Drawing.{drawnMarks}
-use Rattle.kernels.proofs.Drawings.{grid-drawn, two-drawn, three-drawn}
+use Rattle.kernels.specs.code.Drawing.{drawnMarks}
+use Rattle.kernels.proofs.drawing.Drawings.{grid-drawn, diamond-drawn, flat-drawn}
 use Rattle.kernels.proofs.mark.draw.Statement.{statement}
 use Rattle.kernels.proofs.mark.draw.Tie as tie
 
@@ -69,35 +70,39 @@ piece-ends-requires-3 c κs = search needs
 
 returns : tie.Need-returns
 unfolding tapMarks drawnMarks
-returns c = rw (c .enum-told .given .1) (grid-drawn 2 1 (c .before .before .args .radius))
+returns c = rw (c .enum-told .given .1) (grid-drawn level 1 (c .before .before .args .radius))
 
 returns-2 : tie.Need-returns-2
 unfolding tapMarks drawnMarks
-returns-2 c = rw (c .enum-told2 .given .1) (grid-drawn 5 2 (c .before .before .args .radius))
+returns-2 c = rw (c .enum-told2 .given .1) (grid-drawn secondBox 2 (c .before .before .args .radius))
 
 returns-3 : tie.Need-returns-3
 unfolding tapMarks drawnMarks
-returns-3 c = rw (c .enum-told3 .given .1) (grid-drawn 6 3 (c .before .before .args .radius))
+returns-3 c = rw (c .enum-told3 .given .1) (grid-drawn thirdBox 3 (c .before .before .args .radius))
 
 -- a line kernel reaches its radius
-one-box : (r : ℕ) → 1 * r + 3 ≡ r + 3
-one-box r = omega arith
+reach-one : (r : ℕ) → 1 * r + margin ≡ r + margin
+reach-one r = omega arith
 
 returns-4 : tie.Need-returns-4
 unfolding tapMarks
-returns-4 c = rw (c .before .enum-told4 .given .1, one-box, c .piece-ends .ensures) (two-drawn (c .before .before .before .args .radius))
+returns-4 c =
+    rw (c .before .enum-told4 .given .1, reach-one, c .piece-ends .ensures)
+    (diamond-drawn (c .before .before .before .args .radius))
 
 returns-5 : tie.Need-returns-5
 unfolding tapMarks hexagonMarks
 returns-5 c =
     let r = c .before .before .before .args .radius in
-    rw (c .before .enum-told5 .given .1, one-box, c .piece-ends2 .ensures) (three-drawn r 0 2 (half r) (2 * (r - half r)) (omega arith))
+    rw (c .before .enum-told5 .given .1, reach-one, c .piece-ends2 .ensures)
+    (flat-drawn r 0 2 (half r) (2 * (r - half r)) (omega arith))
 
 returns-6 : tie.Need-returns-6
 unfolding tapMarks octagonMarks
 returns-6 c =
     let r = c .before .before .before .args .radius in
-    rw (c .before .enum-told6 .given .1, one-box, c .piece-ends3 .ensures) (three-drawn r (half r) 1 (r - half r) (2 * half r) (omega arith))
+    rw (c .before .enum-told6 .given .1, reach-one, c .piece-ends3 .ensures)
+    (flat-drawn r (half r) 1 (r - half r) (2 * half r) (omega arith))
 
 pub draw-spec : {M : Type 1} → statement M
 draw-spec =

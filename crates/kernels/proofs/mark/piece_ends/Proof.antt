@@ -1,7 +1,7 @@
 -- `mark::piece_ends` meets its contract: every difference is of a number that the edge and the rise leave room for.
 use mathlib.Core.Path.{refl}
 use borrow.Author.Needs.{needs}
-use Rattle.kernels.specs.Drawing.{outlineOf}
+use Rattle.kernels.specs.code.Drawing.{outlineOf}
 use Rattle.kernels.proofs.mark.piece_ends.Statement.{statement}
 use Rattle.kernels.proofs.mark.piece_ends.Tie as tie
 
@@ -29,11 +29,8 @@ add-turn c = search needs
 add-back : tie.Need-add-back
 add-back c = search needs
 
-sub-t11 : tie.Need-sub-t11
-sub-t11 c = search needs
-
-add-t12 : tie.Need-add-t12
-add-t12 c = search needs
+sub-t12 : tie.Need-sub-t12
+sub-t12 c = search needs
 
 add-t13 : tie.Need-add-t13
 add-t13 c = search needs
@@ -41,17 +38,20 @@ add-t13 c = search needs
 add-t14 : tie.Need-add-t14
 add-t14 c = search needs
 
-sub-t15 : tie.Need-sub-t15
-sub-t15 c = search needs
+add-t15 : tie.Need-add-t15
+add-t15 c = search needs
 
-add-t16 : tie.Need-add-t16
-add-t16 c = search needs
+sub-t16 : tie.Need-sub-t16
+sub-t16 c = search needs
 
-add-t18 : tie.Need-add-t18
-add-t18 c = search needs
+add-t17 : tie.Need-add-t17
+add-t17 c = search needs
 
-sub-t19 : tie.Need-sub-t19
-sub-t19 c = search needs
+add-t19 : tie.Need-add-t19
+add-t19 c = search needs
+
+sub-t20 : tie.Need-sub-t20
+sub-t20 c = search needs
 
 returns : tie.Need-returns
 unfolding outlineOf
@@ -69,12 +69,12 @@ piece-ends-spec =
     add-bottom-3
     add-turn
     add-back
-    sub-t11
-    add-t12
+    sub-t12
     add-t13
     add-t14
-    sub-t15
-    add-t16
-    add-t18
-    sub-t19
+    add-t15
+    sub-t16
+    add-t17
+    add-t19
+    sub-t20
     returns)

@@ -1,7 +1,7 @@
--- `rounded` gives the nearest, and the branch its minimum with 4,095.
+-- `rounded` gives the nearest, and the branch its minimum with the top.
 use mathlib.Core.Path.{sym}
 use native.Mathlib.Omega.{arith}
-use Rattle.kernels.proofs.Nearest.{value-none, value-some}
+use Rattle.kernels.proofs.numbers.Nearest.{value-none, value-some}
 use borrow.Author.Needs.{needs}
 use Rattle.kernels.proofs.rounding.shown_value.Statement.{statement}
 use Rattle.kernels.proofs.rounding.shown_value.Tie as tie
@@ -11,6 +11,9 @@ returns c = sym (value-none _ _ (c .if1 .taken))
 
 rounded-requires : tie.Need-rounded-requires
 rounded-requires c κs = search needs
+
+cast-if2 : tie.Need-cast-if2
+cast-if2 c = search needs
 
 cast-result : tie.Need-cast-result
 cast-result c = search needs
@@ -22,4 +25,4 @@ returns-3 : tie.Need-returns-3
 returns-3 c = rw (value-some _ _ (c .before .before .if1 .left)) (omega (arith, c .before .rounded .ensures))
 
 pub shown-value-spec : {M : Type 1} → statement M
-shown-value-spec = tie.close (tie.spec returns rounded-requires cast-result returns-2 returns-3)
+shown-value-spec = tie.close (tie.spec returns rounded-requires cast-if2 cast-result returns-2 returns-3)

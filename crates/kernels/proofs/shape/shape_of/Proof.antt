@@ -2,7 +2,7 @@
 use mathlib.Core.Path.{ap, sym}
 use native.Mathlib.Omega.{arith}
 use Rattle.kernels.specs.Shape.{shapeOf}
-use Rattle.kernels.proofs.Shapes.{shape-past}
+use Rattle.kernels.proofs.taps.ShapeNumbers.{shape-past}
 use Rattle.kernels.proofs.shape.shape_of.Statement.{statement}
 use Rattle.kernels.proofs.shape.shape_of.Tie as tie
 

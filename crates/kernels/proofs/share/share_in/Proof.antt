@@ -1,10 +1,9 @@
--- `share::share_in` meets its contract: a shape's number is at most 5, so the place of a radius up to 64 is one of the 390.
+-- `share::share_in` meets its contract: the place of a shape and of one of its radii lies in the table.
 use mathlib.Core.Path.{sym}
 use native.Mathlib.Omega.{arith}
 use borrow.Author.Needs.{needs}
-use Rattle.kernels.specs.Share.{tableShare}
-use Rattle.kernels.proofs.Choices.{within-yes, within-no}
-use Rattle.kernels.proofs.Shapes.{number-le}
+use Rattle.kernels.proofs.taps.ShapeNumbers.{number-le}
+use Rattle.kernels.proofs.taps.Shares.{share-there, share-nowhere}
 use Rattle.kernels.proofs.share.share_in.Statement.{statement}
 use Rattle.kernels.proofs.share.share_in.Tie as tie
 
@@ -20,19 +19,17 @@ mul-place c = search needs
 add-place : tie.Need-add-place
 add-place c = search needs
 
-mul-result : tie.Need-mul-result
-mul-result c = search needs
+mul-t9 : tie.Need-mul-t9
+mul-t9 c = search needs
 
-element-copy-out-result : tie.Need-element-copy-out-result
-element-copy-out-result c = omega (arith, number-le (c .before .before .args .s))
+element-copy-out-t14 : tie.Need-element-copy-out-t14
+element-copy-out-t14 c = omega (arith, number-le (c .before .before .args .s))
 
 returns : tie.Need-returns
-unfolding tableShare
-returns c = rw (c .before .number .ensures) (sym (within-yes _ 64 _ (omega arith)))
+returns c = rw (c .before .number .ensures) (sym (share-there _ _ _ (omega arith)))
 
 returns-2 : tie.Need-returns-2
-unfolding tableShare
-returns-2 c = sym (within-no _ 64 _ (omega arith))
+returns-2 c = sym (share-nowhere _ _ _ (omega arith))
 
 pub share-in-spec : {M : Type 1} → statement M
 share-in-spec =
@@ -42,7 +39,7 @@ share-in-spec =
     cast-place
     mul-place
     add-place
-    mul-result
-    element-copy-out-result
+    mul-t9
+    element-copy-out-t14
     returns
     returns-2)

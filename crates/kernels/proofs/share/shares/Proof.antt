@@ -2,9 +2,9 @@
 use mathlib.Core.Path.{refl}
 use Rattle.kernels.specs.Choice.{within}
 use Rattle.kernels.specs.Sum.{sum}
-use Rattle.kernels.proofs.Areas.{countedArea}
-use Rattle.kernels.proofs.Tables.{valuesFrom}
-use Rattle.kernels.proofs.Shares.{quickShare, quickShareAt, table-tested}
+use Rattle.kernels.proofs.taps.Areas.{countedArea}
+use Rattle.kernels.proofs.taps.ValueLists.{valuesFrom}
+use Rattle.kernels.proofs.taps.Shares.{quickShare, quickShareAt, table-tested}
 use Rattle.kernels.proofs.share.shares.Statement.{statement}
 use Rattle.kernels.proofs.share.shares.Tie as tie
 

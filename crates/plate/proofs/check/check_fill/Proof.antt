@@ -2,27 +2,26 @@
 use mathlib.Core.Path.{_≡_, sym, _∙_}
 use borrow.Author.Needs.{needs}
 use borrow.Author.Tests.{lt-ltb, le-ltb}
-use Rattle.plate.specs.Refusal.{Outcome, Accepted, refuseIf, sizeOf, sized, sizesCheck, lentCheck, inputsCheck, openCheck}
-use Rattle.plate.proofs.Checks.{sizes-passed}
-use Rattle.plate.proofs.Chains.{open-before, inputs-before}
+use Rattle.plate.specs.Refusal.{Outcome, Accepted, refuseIf, sizesCheck, lentCheck, inputsCheck, openCheck}
+use Rattle.plate.proofs.checks.Passed.{sizes-passed}
+use Rattle.plate.proofs.checks.Chains.{open-before, inputs-before}
+use Rattle.plate.specs.code.Filling.{fillLengths}
 use Rattle.plate.proofs.check.check_fill.Statement.{statement}
 use Rattle.plate.proofs.check.check_fill.Tie as tie
 
 -- past the plate's check and the inputs'
 past : (c : tie.After-enum-told3) (next : Outcome)
-    → let a = c .before .before .before .before .before .before .args in
-    let z = sizeOf (a .state) in
-    sizesCheck z
-    (lentCheck z (sized (a .planes) (a .pixels) (a .log))
-    (inputsCheck z (a .values) (a .opacities) (a .depths) next))
-    ≡ next
+    → let told = c .before .before .before in
+    let a = told .before .before .before .before .args in
+    let z = a .state .size in
+    sizesCheck z (lentCheck z (a .lent) (inputsCheck z (a .values) (a .opacities) (a .depths) next)) ≡ next
 past c next =
     let told = c .before .before .before in
     rw (
       open-before,
       ← told .before .before .check-open .ensures,
       told .enum-told .given .1,
-      inputs-before (sizeOf (told .before .before .before .args .state)) _ _ _ Accepted next,
+      inputs-before (told .before .before .before .before .args .state .size) _ _ _ Accepted next,
       ← c .before .before .check-inputs .ensures,
       c .enum-told3 .given .1,
     )
@@ -37,13 +36,13 @@ enum-told-2 : tie.Need-enum-told-2
 enum-told-2 c = search needs
 
 returns : tie.Need-returns
+unfolding fillLengths
 returns c = rw (open-before, ← c .before .before .check-open .ensures, c .enum-told2 .given .1)
 
 check-inputs-requires : tie.Need-check-inputs-requires
 unfolding openCheck
 check-inputs-requires c κs =
-    let h = sizes-passed _ _ (sym (c .before .before .check-open .ensures) ∙ c .enum-told .given .1) .0 in
-    (h .width-top, h .height-top)
+    sizes-passed _ _ (sym (c .before .before .check-open .ensures) ∙ c .enum-told .given .1) .0
 
 enum-told-3 : tie.Need-enum-told-3
 enum-told-3 c = search needs
@@ -52,24 +51,25 @@ enum-told-4 : tie.Need-enum-told-4
 enum-told-4 c = search needs
 
 returns-2 : tie.Need-returns-2
+unfolding fillLengths
 returns-2 c =
     let told = c .before .before .before in
     rw (
       open-before,
       ← told .before .before .check-open .ensures,
       told .enum-told .given .1,
-      inputs-before (sizeOf (told .before .before .before .args .state)) _ _ _ Accepted _,
+      inputs-before (told .before .before .before .before .args .state .size) _ _ _ Accepted _,
       ← c .before .before .check-inputs .ensures,
       c .enum-told4 .given .1,
     )
 
 returns-3 : tie.Need-returns-3
-unfolding refuseIf
-returns-3 c = rw (past (c .before .before) _, lt-ltb _ _ (c .if1 .taken))
+unfolding fillLengths refuseIf
+returns-3 c = rw (past (c .before) _, lt-ltb _ _ (c .if1 .taken))
 
 returns-4 : tie.Need-returns-4
-unfolding refuseIf
-returns-4 c = rw (past (c .before .before) _, le-ltb _ _ (c .if1 .left))
+unfolding fillLengths refuseIf
+returns-4 c = rw (past (c .before) _, le-ltb _ _ (c .if1 .left))
 
 pub check-fill-spec : {M : Type 1} → statement M
 check-fill-spec =

@@ -1,15 +1,12 @@
 -- Each test is the definition's.
 use native.Mathlib.Omega.{arith}
 use Rattle.plate.specs.Refusal.{inputsCheck, refuseIf}
-use Rattle.plate.proofs.Chains.{tests}
-use Rattle.plate.proofs.Extents.{places-small}
+use Rattle.plate.proofs.checks.Chains.{tests}
 use Rattle.plate.proofs.check.check_inputs.Statement.{statement}
 use Rattle.plate.proofs.check.check_inputs.Tie as tie
 
 mul-places : tie.Need-mul-places
-mul-places c =
-    let a = c .before .args .state in
-    omega (arith, places-small (a .width) (a .height) (omega arith) (omega arith))
+mul-places c = omega (arith, c .pre .places-top)
 
 returns : tie.Need-returns
 unfolding inputsCheck refuseIf

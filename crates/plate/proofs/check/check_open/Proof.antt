@@ -1,15 +1,12 @@
 -- The sizes' refusal comes first; past it they are lawful, and the lengths' check is the rest.
 use mathlib.Core.Path.{sym, _∙_}
 use borrow.Author.Needs.{needs}
-use Rattle.plate.specs.Layout.{Size}
 use Rattle.plate.specs.Refusal.{Accepted, openCheck}
-use Rattle.plate.proofs.Checks.{sizes-passed}
-use Rattle.plate.proofs.Chains.{sizes-before}
+use Rattle.plate.proofs.checks.Passed.{sizes-passed}
+use Rattle.plate.proofs.checks.Chains.{sizes-before}
 use Rattle.plate.proofs.check.check_open.Statement.{statement}
 use Rattle.plate.proofs.check.check_open.Tie as tie
-
-abbrev size : tie.Start → Size
-size c = record { width = c .args .width; height = c .args .height; reach = c .args .reach }
+use Rattle.plate.specs.Lent.{sized}
 
 check-sizes-requires : tie.Need-check-sizes-requires
 check-sizes-requires c κs = search needs
@@ -23,23 +20,20 @@ enum-told-2 c = search needs
 returns : tie.Need-returns
 unfolding openCheck
 returns c =
-    rw (
-      sizes-before (size (c .before .before .before)) Accepted _,
-      ← c .before .before .check-sizes .ensures,
-      c .enum-told2 .given .1,
-    )
+    let sized = c .before .before in
+    rw (sizes-before (sized .before .args .size) Accepted _, ← sized .check-sizes .ensures, c .enum-told2 .given .1)
 
 check-lent-requires : tie.Need-check-lent-requires
 check-lent-requires c κs =
-    let h = sizes-passed _ Accepted (sym (c .before .before .check-sizes .ensures) ∙ c .enum-told .given .1) .0 in
-    (h .width-top, h .height-top, h .reach-top)
+    sizes-passed _ Accepted (sym (c .before .before .check-sizes .ensures) ∙ c .enum-told .given .1) .0
 
 returns-2 : tie.Need-returns-2
 unfolding openCheck
 returns-2 c =
+    let sized = c .before .before .before in
     rw (
-      sizes-before (size (c .before .before .before .before)) Accepted _,
-      ← c .before .before .before .check-sizes .ensures,
+      sizes-before (sized .before .args .size) Accepted _,
+      ← sized .check-sizes .ensures,
       c .before .enum-told .given .1,
     )
     (c .check-lent .ensures)

@@ -1,8 +1,8 @@
--- Each test is the definition's, in its order, and width times height is taken only of numbers up to 4,096.
+-- Each test is the definition's, in its order, and width times height is taken only of sides that are lawful.
 use native.Mathlib.Omega.{arith}
 use Rattle.plate.specs.Refusal.{sizesCheck, refuseIf}
-use Rattle.plate.proofs.Chains.{tests}
-use Rattle.plate.proofs.Extents.{places-small}
+use Rattle.plate.proofs.checks.Chains.{tests}
+use Rattle.plate.proofs.numbers.Extents.{places-small}
 use Rattle.plate.proofs.check.check_sizes.Statement.{statement}
 use Rattle.plate.proofs.check.check_sizes.Tie as tie
 
@@ -24,8 +24,8 @@ returns-4 c = search tests
 
 mul-if5 : tie.Need-mul-if5
 mul-if5 c =
-    let a = c .before .before .before .before .args in
-    omega (arith, places-small (a .width) (a .height) (omega arith) (omega arith))
+    let z = c .before .before .before .before .args .size in
+    omega (arith, places-small (z .width) (z .height) (omega arith) (omega arith))
 
 returns-5 : tie.Need-returns-5
 unfolding sizesCheck refuseIf

@@ -1,12 +1,12 @@
--- The plate's refusal comes first; past it each test is the definition's.
+-- The plate's refusal comes first; past it the test is the definition's.
 use borrow.Author.Needs.{needs}
 use Rattle.plate.specs.Refusal.{refuseIf, undoCheck}
-use Rattle.plate.proofs.Chains.{tests, open-before}
+use Rattle.plate.proofs.checks.Chains.{tests, plate-before}
 use Rattle.plate.proofs.check.check_undo.Statement.{statement}
 use Rattle.plate.proofs.check.check_undo.Tie as tie
 
-check-open-requires : tie.Need-check-open-requires
-check-open-requires c κs = search needs
+check-plate-requires : tie.Need-check-plate-requires
+check-plate-requires c κs = search needs
 
 enum-told : tie.Need-enum-told
 enum-told c = search needs
@@ -16,28 +16,20 @@ enum-told-2 c = search needs
 
 returns : tie.Need-returns
 unfolding undoCheck
-returns c =
-    rw (open-before, ← c .before .before .check-open .ensures, c .enum-told2 .given .1)
+returns c = rw (plate-before, ← c .before .before .check-plate .ensures, c .enum-told2 .given .1)
 
 returns-2 : tie.Need-returns-2
 unfolding undoCheck refuseIf
 returns-2 c =
-    let told = c .before .before in
-    rw (open-before, ← told .before .before .check-open .ensures, told .enum-told .given .1) (search tests)
+    let told = c .before in
+    rw (plate-before, ← told .before .before .check-plate .ensures, told .enum-told .given .1) (search tests)
 
 returns-3 : tie.Need-returns-3
 unfolding undoCheck refuseIf
 returns-3 c =
-    let told = c .before .before .before .before in
-    rw (open-before, ← told .before .before .check-open .ensures, told .enum-told .given .1) (search tests)
-
-returns-4 : tie.Need-returns-4
-unfolding undoCheck refuseIf
-returns-4 c =
-    let told = c .before .before .before .before in
-    rw (open-before, ← told .before .before .check-open .ensures, told .enum-told .given .1) (search tests)
+    let told = c .before in
+    rw (plate-before, ← told .before .before .check-plate .ensures, told .enum-told .given .1) (search tests)
 
 pub check-undo-spec : {M : Type 1} → statement M
 check-undo-spec =
-    tie.close
-    (tie.spec check-open-requires enum-told enum-told-2 returns returns-2 returns-3 returns-4)
+    tie.close (tie.spec check-plate-requires enum-told enum-told-2 returns returns-2 returns-3)

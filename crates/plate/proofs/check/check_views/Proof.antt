@@ -1,59 +1,58 @@
--- Each test is the definition's, and `padded_cells` gives the cells of a plane.
+-- Each test is the definition's, and the frame has the plate's cells and places.
+use mathlib.Core.Path.{_≡_, ap}
 use native.Mathlib.Omega.{arith}
 use borrow.Author.Needs.{needs}
-use Rattle.plate.specs.Refusal.{sizeOf, viewsCheck, refuseIf}
-use Rattle.plate.proofs.Chains.{tests}
-use Rattle.plate.proofs.Extents.{padded-small}
+use Rattle.plate.specs.Layout.{padded, places}
+use Rattle.plate.specs.Refusal.{viewsCheck, refuseIf}
+use Rattle.plate.proofs.checks.Chains.{tests}
+use Rattle.plate.proofs.numbers.Extents.{padded-small}
+use Rattle.plate.specs.code.Bounds.{Frame}
 use Rattle.plate.proofs.check.check_views.Statement.{statement}
 use Rattle.plate.proofs.check.check_views.Tie as tie
 
-padded-cells-requires : tie.Need-padded-cells-requires
-padded-cells-requires c κs = search needs
+-- the frame's cells are the plate's
+cells : (c : tie.After-frame-of) → c .frame-of .result .padded ≡ padded (c .before .args .size)
+cells c = ap (λ (f : Frame). f .padded) (c .frame-of .ensures)
 
-mul-places : tie.Need-mul-places
-mul-places c = search needs
+all : (c : tie.After-frame-of) → c .frame-of .result .places ≡ places (c .before .args .size)
+all c = ap (λ (f : Frame). f .places) (c .frame-of .ensures)
+
+frame-of-requires : tie.Need-frame-of-requires
+frame-of-requires c κs = search needs
 
 mul-if1 : tie.Need-mul-if1
 mul-if1 c =
-    omega (
-      arith,
-      c .before .padded-cells .ensures,
-      padded-small (sizeOf (c .before .before .args .state)) (omega arith) (omega arith) (omega arith),
-    )
+    let framed = c in
+    omega (arith, cells framed, padded-small (framed .before .args .size) (framed .before .pre))
 
 returns : tie.Need-returns
 unfolding viewsCheck refuseIf
-returns c = rw (← c .before .before .padded-cells .ensures) (search tests)
+returns c = let framed = c .before in rw (← cells framed, ← all framed) (search tests)
 
 mul-if2 : tie.Need-mul-if2
 mul-if2 c = search needs
 
 returns-2 : tie.Need-returns-2
 unfolding viewsCheck refuseIf
-returns-2 c = rw (← c .before .before .before .padded-cells .ensures) (search tests)
+returns-2 c =
+    let framed = c .before .before in rw (← cells framed, ← all framed) (search tests)
 
 returns-3 : tie.Need-returns-3
 unfolding viewsCheck refuseIf
-returns-3 c = rw (← c .before .before .before .before .padded-cells .ensures) (search tests)
+returns-3 c =
+    let framed = c .before .before .before in rw (← cells framed, ← all framed) (search tests)
 
 returns-4 : tie.Need-returns-4
 unfolding viewsCheck refuseIf
-returns-4 c = rw (← c .before .before .before .before .before .padded-cells .ensures) (search tests)
+returns-4 c =
+    let framed = c .before .before .before .before in rw (← cells framed, ← all framed) (search tests)
 
 returns-5 : tie.Need-returns-5
 unfolding viewsCheck refuseIf
-returns-5 c = rw (← c .before .before .before .before .before .padded-cells .ensures) (search tests)
+returns-5 c =
+    let framed = c .before .before .before .before in rw (← cells framed, ← all framed) (search tests)
 
 pub check-views-spec : {M : Type 1} → statement M
 check-views-spec =
     tie.close
-    (tie.spec
-    padded-cells-requires
-    mul-places
-    mul-if1
-    returns
-    mul-if2
-    returns-2
-    returns-3
-    returns-4
-    returns-5)
+    (tie.spec frame-of-requires mul-if1 returns mul-if2 returns-2 returns-3 returns-4 returns-5)

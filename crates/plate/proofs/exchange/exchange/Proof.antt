@@ -1,72 +1,69 @@
--- The table gives both shares; `take_pixel` and `lay_pixel` do what `exchanged` says one after the other, on planes of the same
--- length.
-use mathlib.Core.Path.{_∙_}
+-- The planes are those that `exchange_marks` leaves, the word is the packed pixel, and the counts are few.
+use mathlib.Core.Path.{_≡_, _∙_}
 use native.Mathlib.Omega.{arith}
-use Rattle.kernels.proofs.Shares.{table-share}
-use Rattle.plate.specs.Marks.{exchanged}
 use borrow.Author.Needs.{needs}
+use Rattle.kernels.proofs.taps.ShapeNumbers.{count-few}
 use Rattle.plate.proofs.exchange.exchange.Statement.{statement}
 use Rattle.plate.proofs.exchange.exchange.Tie as tie
 
-frame-of-requires : tie.Need-frame-of-requires
-frame-of-requires c κs = search needs
+exchange-marks-requires : tie.Need-exchange-marks-requires
+exchange-marks-requires c κs = c .before .before .before .before .pre .0
 
-shares-requires : tie.Need-shares-requires
-shares-requires c κs = search needs
+pack-requires : tie.Need-pack-requires
+pack-requires c κs =
+    c .before .before .before .before .before .before .before .before .before .pre .0 .new-fits .value-fits
 
-share-in-requires : tie.Need-share-in-requires
-share-in-requires c κs = search needs
+mul-pixels : tie.Need-mul-pixels
+mul-pixels c =
+    let s = c .before .before .before .before .before .before .before .before .before .before in omega (arith, s .pre .1, s .good)
 
-take-pixel-requires : tie.Need-take-pixel-requires
-take-pixel-requires c κs =
-    let framed = c .before .before .before .before in
-    let placed = framed .before .before .pre .3 in (
-      record {
-        framed = framed .frame-of .ensures;
-        planes-are = placed .planes-are;
-        column-in = placed .column-in;
-        row-in = placed .row-in;
-        radius-fits = placed .radius-fits;
-      },
-      c .before .share-in .ensures ∙ rw (c .before .before .before .shares .ensures) (table-share _ _),
-    )
+slice-write-pixels : tie.Need-slice-write-pixels
+slice-write-pixels c = c .before .before .before .before .before .before .before .before .before .before .pre .1
 
-share-in-requires-2 : tie.Need-share-in-requires-2
-share-in-requires-2 c κs = search needs
+mark-count-requires : tie.Need-mark-count-requires
+mark-count-requires c κs = search needs
 
-lay-pixel-requires : tie.Need-lay-pixel-requires
-lay-pixel-requires c κs =
-    let framed = c .before .before .before .before .before .before .before .before .before .before in
-    let placed = framed .before .before .pre .4 in (
-      record {
-        framed = framed .frame-of .ensures;
-        planes-are = omega (arith, placed .planes-are);
-        column-in = placed .column-in;
-        row-in = placed .row-in;
-        radius-fits = placed .radius-fits;
-      },
-      c .before .share-in2 .ensures ∙ rw (c .before .before .before .before .before .before .before .before .before .shares .ensures) (table-share _ _),
-    )
+mark-count-requires-2 : tie.Need-mark-count-requires-2
+mark-count-requires-2 c κs = search needs
+
+add-accepted : tie.Need-add-accepted
+add-accepted c =
+    let s = c .before .before .before .before .before .before .before .before .before .before .before .before in
+    let change = s .args .change in
+    omega (arith, count-few (change .old .shape), count-few (change .new .shape), c .before .mark-count .ensures, c .mark-count2 .ensures)
+
+accepted-requires : tie.Need-accepted-requires
+accepted-requires c κs = search needs
 
 same-length : tie.Need-same-length
 same-length c = search needs
 
+same-length-2 : tie.Need-same-length-2
+same-length-2 c = search needs
+
 returns : tie.Need-returns
-unfolding exchanged
 returns c =
-    let laid = c .before .before in
-    let taken = laid .before .before .before .before .before .before in
-    rw (laid .lay-pixel .ensures, taken .take-pixel .ensures)
+    let new = c .before in
+    let old = new .before in
+    let packed = old .before in
+    record {
+      answer-is = rw (c .accepted .ensures, old .mark-count .ensures, new .mark-count2 .ensures);
+      planes-are = packed .before .before .before .before .before .exchange-marks .ensures;
+      pixels-are = rw (packed .pack .ensures);
+    }
 
 pub exchange-spec : {M : Type 1} → statement M
 exchange-spec =
     tie.close
     (tie.spec
-    frame-of-requires
-    shares-requires
-    share-in-requires
-    take-pixel-requires
-    share-in-requires-2
-    lay-pixel-requires
+    exchange-marks-requires
+    pack-requires
+    mul-pixels
+    slice-write-pixels
+    mark-count-requires
+    mark-count-requires-2
+    add-accepted
+    accepted-requires
     same-length
+    same-length-2
     returns)

@@ -2,8 +2,8 @@
 use native.Mathlib.Omega.{arith}
 use borrow.Author.Needs.{needs}
 use Rattle.kernels.specs.Mark.{minus, boxGrid, marksTo}
-use Rattle.plate.specs.Laying.{Inside}
-use Rattle.plate.proofs.Laid.{times-one, drawn-append, box-columns}
+use Rattle.plate.specs.code.Laying.{AllIn}
+use Rattle.plate.proofs.laying.Worths.{times-one, drawn-append, box-columns}
 use Rattle.plate.proofs.lay.lay_box.Statement.{statement}
 use Rattle.plate.proofs.lay.lay_box.Tie as tie
 
@@ -11,15 +11,15 @@ opposite-requires : tie.Need-opposite-requires
 opposite-requires c κs = search needs
 
 add-far : tie.Need-add-far
-unfolding Inside boxGrid marksTo
+unfolding AllIn boxGrid marksTo
 add-far c = omega arith
 
 lay-piece-requires : tie.Need-lay-piece-requires
-unfolding Inside boxGrid marksTo
+unfolding AllIn boxGrid marksTo
 lay-piece-requires c κs = search needs
 
 lay-piece-requires-2 : tie.Need-lay-piece-requires-2
-unfolding Inside boxGrid marksTo
+unfolding AllIn boxGrid marksTo
 lay-piece-requires-2 c κs = search needs
 
 same-length : tie.Need-same-length

@@ -1,16 +1,16 @@
 -- `lay::lay_piece` meets its contract: it lays the start and then the end.
 use native.Mathlib.Omega.{arith}
 use borrow.Author.Needs.{needs}
-use Rattle.plate.specs.Laying.{Inside, layDrawn}
+use Rattle.plate.specs.code.Laying.{AllIn, layDrawn}
 use Rattle.plate.proofs.lay.lay_piece.Statement.{statement}
 use Rattle.plate.proofs.lay.lay_piece.Tie as tie
 
 lay-mark-requires : tie.Need-lay-mark-requires
-unfolding Inside
+unfolding AllIn
 lay-mark-requires c κs = omega arith
 
 lay-mark-requires-2 : tie.Need-lay-mark-requires-2
-unfolding Inside
+unfolding AllIn
 lay-mark-requires-2 c κs = omega arith
 
 same-length : tie.Need-same-length

@@ -1,27 +1,25 @@
--- A lawful lens gives a lawful depth a radius up to the top; the table gives its share, `lay_pixel` lays, and `pack` packs.
+-- A lawful lens gives a lawful depth a radius up to the top; `lay_pixel` lays, and `pack` packs.
 use mathlib.Core.Path.{_≡_, _∙_}
 use mathlib.Core.Logic.{⊎-elim}
 use Prim.Native.Nat.{min}
 use native.Mathlib.Omega.{arith}
 use borrow.Author.Needs.{needs}
 use Rattle.kernels.specs.Lens.{blur}
-use Rattle.kernels.proofs.Lenses.{in-pixels}
-use Rattle.kernels.proofs.Shares.{table-share}
-use Rattle.plate.proofs.Filling.{radius-is}
+use Rattle.kernels.proofs.lenses.ThinLens.{in-pixels}
+use Rattle.plate.proofs.filling.Filling.{radius-is}
 use Rattle.plate.proofs.layer.fill_pixel.Statement.{statement}
 use Rattle.plate.proofs.layer.fill_pixel.Tie as tie
 
 -- the radius of the pixel
-radius : (c : tie.After-known-told)
-    → let a = c .before .before .before .before .before .args in
-    c .before .radius .given .0 .0 ≡ min (a .layer .top) (blur (a .layer .lens) (a .depth))
+radius : (c : tie.After-radius)
+    → let a = c .before .before .before .before .args in
+    c .radius .given .0 .0 ≡ min (a .layer .top) (blur (a .layer .lens) (a .depth))
 radius c =
-    let told = c .before in
-    let start = told .before .before .before .before in
+    let start = c .before .before .before .before in
     let a = start .args in
-    radius-is (a .layer .lens) (a .layer .top) (a .depth) _ _ (start .pre .0 .lens-lawful) (start .pre .5)
-    (told .before .before .radius-from .ensures)
-    (told .radius .given .1)
+    radius-is (a .layer .lens) (a .layer .top) (a .depth) _ _ (start .pre .0 .lens-lawful) (start .pre .2 .depth-in)
+    (c .before .before .radius-from .ensures)
+    (c .radius .given .1)
 
 radius-from-requires : tie.Need-radius-from-requires
 radius-from-requires c κs = search needs
@@ -34,30 +32,27 @@ returns c =
     let found = c .before in
     let start = found .before .before in
     let a = start .args in
-    let some = in-pixels (a .layer .lens) (a .layer .top) (a .depth) (start .pre .0 .lens-lawful) (start .pre .5) in
+    let some = in-pixels (a .layer .lens) (a .layer .top) (a .depth) (start .pre .0 .lens-lawful) (start .pre .2 .depth-in) in
     absurd (⊎-elim (λ q. omega arith) (λ q. omega arith) (rw (found .radius-from .ensures ∙ some) at (c .match .keys2)))
-
-share-in-requires : tie.Need-share-in-requires
-share-in-requires c κs = search needs
 
 lay-pixel-requires : tie.Need-lay-pixel-requires
 lay-pixel-requires c κs =
-    let known = c .before .before in
-    let start = known .before .before .before .before .before in
-    let h = start .pre in
-    let shape = start .args .layer .shape in (
+    let known = c .before .before .before in
+    let start = known .before .before .before .before in
+    let h = start .pre in (
       record {
         framed = h .0 .framed;
-        planes-are = h .0 .planes-are;
-        column-in = h .2;
-        row-in = h .3;
+        planes-are = rw (h .0 .framed) (h .0 .planes-are);
+        column-in = h .2 .column-in;
+        row-in = h .2 .row-in;
         radius-fits = omega (arith, radius known, h .0 .top-is);
       },
-      c .before .share-in .ensures ∙ rw (h .1) (table-share shape _),
+      h .1,
     )
 
 pack-requires : tie.Need-pack-requires
-pack-requires c κs = search needs
+pack-requires c κs =
+    c .before .before .before .before .before .before .before .before .before .before .pre .2 .value-in
 
 same-length : tie.Need-same-length
 same-length c = search needs
@@ -65,8 +60,8 @@ same-length c = search needs
 returns-2 : tie.Need-returns-2
 returns-2 c =
     let laid = c .before .before .before in
-    let r = radius (laid .before .before .before) in
-    (rw (laid .lay-pixel .ensures, r), rw (c .pack .ensures, r))
+    let r = radius (laid .before .before .before .before) in
+    record { laid = rw (laid .lay-pixel .ensures, r); word-is = rw (c .pack .ensures, r) }
 
 pub fill-pixel-spec : {M : Type 1} → statement M
 fill-pixel-spec =
@@ -75,7 +70,6 @@ fill-pixel-spec =
     radius-from-requires
     enum-known-radius
     returns
-    share-in-requires
     lay-pixel-requires
     pack-requires
     same-length

@@ -6,11 +6,10 @@ use native.Mathlib.Omega.{arith}
 use native.Mathlib.Nat.{add-zero}
 use lib.ListN.{length}
 use borrow.Author.Needs.{needs}
-use Rattle.plate.specs.Refusal.{inputs}
-use Rattle.plate.specs.Filling.{FilledTo}
-use Rattle.plate.proofs.Extents.{place-within}
-use Rattle.plate.proofs.Scans.{row-within}
-use Rattle.plate.proofs.Filling.{filled-more}
+use Rattle.plate.specs.Lent.{inputs}
+use Rattle.plate.specs.code.Filling.{layerSize, FilledTo, FilledRow}
+use Rattle.plate.proofs.numbers.Extents.{place-within, row-in}
+use Rattle.plate.proofs.filling.Filling.{filled-more}
 use Rattle.plate.proofs.layer.fill_row.Statement.{statement}
 use Rattle.plate.proofs.layer.fill_row.Tie as tie
 
@@ -30,12 +29,12 @@ entry c = c .before .before .before .before .before .before
 -- the place is one of the plate, so of every list
 inside : (c : tie.In-loop Inv-loop μ-loop)
     → let a = entry (c .before) .args in
-    let place = a .y * a .layer .state .width + c .before .loop .x in
+    let place = a .y * layerSize (a .layer) .width + c .before .loop .x in
     (place < length (a .values .now)) × (place < length (a .opacities .now)) × (place < length (a .depths .now))
     × (place < length (a .pixels .now))
 inside c =
     let start = entry (c .before) in
-    let z = start .args .layer .state in
+    let z = layerSize (start .args .layer) in
     omega (
       arith,
       place-within (c .before .loop .x) (start .args .y) (z .width) (z .height) (c .loop-test .taken) (start .pre .2),
@@ -45,8 +44,8 @@ inside c =
 mul-start : tie.Need-mul-start Inv-loop μ-loop
 mul-start c =
     let start = c .before .before .before .before .before in
-    let z = start .args .layer .state in
-    omega (arith, row-within (start .args .y) (z .width) (z .height) (start .pre .2), start .pre .0 .pixels-are, start .good)
+    let z = layerSize (start .args .layer) in
+    omega (arith, row-in (start .args .y) (z .width) (z .height) (start .pre .2), start .pre .0 .pixels-are, start .good)
 
 loop-holds : tie.Need-loop-holds Inv-loop μ-loop
 loop-holds c = (search needs, refl, refl, λ cells done. rw add-zero done)
@@ -76,10 +75,12 @@ fill-pixel-requires c κs =
     let h = start .pre .0 in (
       rw (turn .before .loop .inv .1) (h .layable),
       start .pre .1,
-      turn .loop-test .taken,
-      start .pre .2,
-      h .values-in _,
-      h .depths-in _,
+      record {
+        column-in = turn .loop-test .taken;
+        row-in = start .pre .2;
+        value-in = h .values-in _;
+        depth-in = h .depths-in _;
+      },
     )
 
 mul-pixels : tie.Need-mul-pixels Inv-loop μ-loop
@@ -109,8 +110,8 @@ loop-again c =
           (h .layable .top-is)
           (omega (arith, inside turn, turn .before .loop .inv .2))
           (omega arith)
-          (made .fill-pixel .ensures .0)
-          (made .fill-pixel .ensures .1)
+          (made .fill-pixel .ensures .laid)
+          (made .fill-pixel .ensures .word-is)
           (turn .before .loop .inv .3 cells done),
     )
 
@@ -121,10 +122,12 @@ same-length-2 : tie.Need-same-length-2 Inv-loop μ-loop
 same-length-2 c = search needs
 
 returns : tie.Need-returns Inv-loop μ-loop
+unfolding FilledRow
 returns c =
     let start = entry (c .before) in
     let a = start .args in
-    let end : (a .y + 1) * a .layer .state .width ≡ a .y * a .layer .state .width + c .before .loop .x = omega arith in
+    let w = layerSize (a .layer) .width in
+    let end : (a .y + 1) * w ≡ a .y * w + c .before .loop .x = omega arith in
     λ cells done. rw end (c .before .loop .inv .3 cells done)
 
 pub fill-row-spec : {M : Type 1} → statement M

@@ -5,16 +5,16 @@ use native.Mathlib.Omega.{arith}
 use native.Mathlib.Nat.{mul-comm}
 use lib.ListN.{length}
 use borrow.Author.Needs.{needs}
-use Rattle.plate.specs.Refusal.{inputs}
-use Rattle.plate.specs.Filling.{FilledTo}
-use Rattle.plate.proofs.Filling.{filled-none}
+use Rattle.plate.specs.Lent.{inputs}
+use Rattle.plate.specs.code.Filling.{layerSize, FilledTo, FilledRow}
+use Rattle.plate.proofs.filling.Filling.{filled-none}
 use Rattle.plate.proofs.layer.fill_rows.Statement.{statement}
 use Rattle.plate.proofs.layer.fill_rows.Tie as tie
 
 abbrev Inv-loop : tie.InvT-loop
 Inv-loop planes₀ pixels₀ table layer values opacities depths height y₀ planes pixels y =
     (y ≤ height) × (length planes ≡ length planes₀) × (length pixels ≡ length pixels₀)
-    × FilledTo layer (inputs values opacities depths) planes₀ planes pixels (y * layer .state .width)
+    × FilledTo layer (inputs values opacities depths) planes₀ planes pixels (y * layerSize layer .width)
 
 abbrev μ-loop : tie.MeasureT-loop
 μ-loop planes₀ pixels₀ table layer values opacities depths height y₀ planes pixels y = height - y
@@ -39,6 +39,7 @@ loop-less : tie.Need-loop-less Inv-loop μ-loop
 loop-less c = search needs
 
 loop-again : tie.Need-loop-again Inv-loop μ-loop
+unfolding FilledRow
 loop-again c =
     let made = c .before .before .before .before in
     let turn = made .before .before .before .before .loop in
@@ -52,7 +53,7 @@ same-length-2 c = search needs
 
 returns : tie.Need-returns Inv-loop μ-loop
 returns c =
-    let z = entry (c .before) .args .layer .state in
+    let z = layerSize (entry (c .before) .args .layer) in
     let last : z .height ≡ c .before .loop .y = omega arith in
     let all : z .width * z .height ≡ c .before .loop .y * z .width =
     mul-comm (z .width) (z .height) ∙ ap (λ (n : ℕ). n * z .width) last in

@@ -1,4 +1,4 @@
--- Each field is what its function ensures.
+-- `frame_of` and `top_under` give what the definition has.
 use borrow.Author.Needs.{needs}
 use Rattle.plate.proofs.layer.layer_of.Statement.{statement}
 use Rattle.plate.proofs.layer.layer_of.Tie as tie

@@ -1,107 +1,51 @@
--- The refusals come in the table's order, and past them the layer is that of the plate, the lens and the known shape.
-use mathlib.Core.Path.{_≡_}
-use mathlib.Core.List.{List}
-use Prim.Native.Nat.{ℕ}
+-- The lengths' refusal comes first; past it what the inputs' check says is the rest.
+use mathlib.Core.Path.{_≡_, sym, _∙_}
+use lib.ListN.{length}
 use borrow.Author.Needs.{needs}
-use Rattle.plate.specs.Refusal.{Accepted, refuseIf, inputs, shapeCheck, lensCheck, depthsCheck, layerCheck}
+use Rattle.plate.specs.Refusal.{Accepted}
+use Rattle.plate.specs.code.Filling.{fillLengths}
+use Rattle.plate.proofs.checks.Accepted.{fill-accepted}
+use Rattle.plate.proofs.filling.Filling.{layer-before, layer-past}
 use Rattle.plate.proofs.layer.read_layer.Statement.{statement}
 use Rattle.plate.proofs.layer.read_layer.Tie as tie
 
--- past the values' check and the shape's
-past : (c : tie.After-known-told) (opacities : List ℕ)
-    → let a = c .before .before .before .before .before .before .before .before .args in
-    layerCheck (a .lens) (a .shape) (inputs (a .values .now) opacities (a .depths .now))
-    ≡ lensCheck (a .lens) (depthsCheck (a .depths .now) Accepted)
-unfolding layerCheck refuseIf shapeCheck
-past c opacities =
-    let known = c .before in
-    let shaped = known .before .before in
-    let valued = shaped .before in
-    rw (← valued .before .value-above .ensures, valued .if1 .left, ← shaped .shape-of .ensures, known .known .given .1)
+-- 1 to 3 passed
+first : (c : tie.After-enum-told)
+    → let a = c .before .before .before .before .before .args in
+    fillLengths (a .state) (a .lent) (length (a .values .now)) (a .opacities) (length (a .depths .now)) ≡ Accepted
+first c = sym (c .before .before .check-fill .ensures) ∙ c .enum-told .given .1
 
-value-above-requires : tie.Need-value-above-requires
-value-above-requires c κs = search needs
+check-fill-requires : tie.Need-check-fill-requires
+check-fill-requires c κs = search needs
+
+enum-known-check : tie.Need-enum-known-check
+enum-known-check c = search needs
 
 returns : tie.Need-returns
-unfolding layerCheck refuseIf
-returns c = λ opacities. rw (← c .before .value-above .ensures, c .if1 .taken)
-
-shape-of-requires : tie.Need-shape-of-requires
-shape-of-requires c κs = search needs
-
-enum-known-known : tie.Need-enum-known-known
-enum-known-known c = search needs
+returns c =
+    let found = c .before in
+    let lengths = sym (found .before .before .check-fill .ensures) ∙ found .check .given .1 in
+    λ given e. layer-before _ _ _ _ _ _ (rw (← e) at lengths)
 
 enum-told : tie.Need-enum-told
 enum-told c = search needs
 
+read-inputs-requires : tie.Need-read-inputs-requires
+read-inputs-requires c κs =
+    let h = fill-accepted _ _ _ _ _ (first (c .before)) in (h .lawful, h .values-are, h .depths-are)
+
 returns-2 : tie.Need-returns-2
-unfolding layerCheck refuseIf shapeCheck
 returns-2 c =
-    let shaped = c .before .before in
-    let valued = shaped .before in
-    λ opacities. rw (
-      ← valued .before .value-above .ensures,
-      valued .if1 .left,
-      ← shaped .shape-of .ensures,
-      c .enum-told .given .1,
-    )
-
-lawful-lens-requires : tie.Need-lawful-lens-requires
-lawful-lens-requires c κs = search needs
-
-returns-3 : tie.Need-returns-3
-unfolding refuseIf
-returns-3 c = λ opacities. rw (past (c .before .before) opacities, ← c .before .lawful-lens .ensures, c .if2 .taken)
-
-depth-above-requires : tie.Need-depth-above-requires
-depth-above-requires c κs = search needs
-
-returns-4 : tie.Need-returns-4
-unfolding refuseIf
-returns-4 c =
-    let lensed = c .before .before in
-    λ opacities. rw (
-      past (lensed .before .before) opacities,
-      ← lensed .before .lawful-lens .ensures,
-      lensed .if2 .left,
-      ← c .before .depth-above .ensures,
-      c .if3 .taken,
-    )
-
-layer-of-requires : tie.Need-layer-of-requires
-layer-of-requires c κs = search needs
-
-returns-5 : tie.Need-returns-5
-unfolding refuseIf
-returns-5 c =
-    let deep = c .before in
-    let lensed = deep .before .before in
-    let known = lensed .before .before in
-    λ opacities. rw (
-      past known opacities,
-      ← lensed .before .lawful-lens .ensures,
-      lensed .if2 .left,
-      ← deep .before .depth-above .ensures,
-      deep .if3 .left,
-      c .layer-of .ensures,
-      ← known .before .before .before .shape-of .ensures,
-      known .before .known .given .1,
-    )
+    let lengths = first (c .before .before) in
+    λ given e. c .read-inputs .ensures given ∙ layer-past _ _ _ _ _ (rw (← e) at lengths)
 
 pub read-layer-spec : {M : Type 1} → statement M
 read-layer-spec =
     tie.close
     (tie.spec
-    value-above-requires
+    check-fill-requires
+    enum-known-check
     returns
-    shape-of-requires
-    enum-known-known
     enum-told
-    returns-2
-    lawful-lens-requires
-    returns-3
-    depth-above-requires
-    returns-4
-    layer-of-requires
-    returns-5)
+    read-inputs-requires
+    returns-2)

@@ -10,14 +10,17 @@ check-open-requires c κs = search needs
 enum-known-check : tie.Need-enum-known-check
 enum-known-check c = search needs
 
+state-of-requires : tie.Need-state-of-requires
+state-of-requires c κs = search needs
+
 refused-requires : tie.Need-refused-requires
 refused-requires c κs = search needs
 
 returns : tie.Need-returns
 unfolding openCall openBy
 returns c =
-    let found = c .before .before in
-    rw (c .refused .ensures, ← found .before .before .check-open .ensures, found .check .given .1)
+    let found = c .before .before .before in
+    rw (c .refused .ensures, c .before .state-of .ensures, ← found .before .before .check-open .ensures, found .check .given .1)
 
 enum-told : tie.Need-enum-told
 enum-told c = search needs
@@ -31,6 +34,9 @@ clear-requires-2 c κs = search needs
 clear-requires-3 : tie.Need-clear-requires-3
 clear-requires-3 c κs = search needs
 
+accepted-requires : tie.Need-accepted-requires
+accepted-requires c κs = search needs
+
 same-length : tie.Need-same-length
 same-length c = search needs
 
@@ -43,11 +49,12 @@ same-length-3 c = search needs
 returns-2 : tie.Need-returns-2
 unfolding openCall openBy
 returns-2 c =
-    let logged = c .before .before in
+    let logged = c .before .before .before in
     let stored = logged .before .before .before .before in
     let laid = stored .before .before .before .before in
     let told = laid .before .before in
     rw (
+      c .accepted .ensures,
       ← told .before .before .check-open .ensures,
       told .enum-told .given .1,
       laid .clear .ensures,
@@ -61,12 +68,14 @@ open-spec =
     (tie.spec
     check-open-requires
     enum-known-check
+    state-of-requires
     refused-requires
     returns
     enum-told
     clear-requires
     clear-requires-2
     clear-requires-3
+    accepted-requires
     same-length
     same-length-2
     same-length-3

@@ -1,106 +1,167 @@
--- `pass::sum_row` meets its contract. The invariant: the columns before i are summed, and the sums across have their marks.
-use Prim.Native.Nat.{_-_, _≤_}
+-- `pass::sum_row` meets its contract. The invariant: the columns before x are summed, and the sums across have their marks.
+use Prim.Native.Nat.{ℕ, _+_, _*_, _-_, _^_, _<_, _≤_}
 use native.Mathlib.Omega.{arith}
+use lib.ListN.{length}
 use borrow.Author.Needs.{needs}
-use Rattle.plate.proofs.Sweeps.{sweep-all}
-use Rattle.plate.proofs.RowSums.{Running, running-start, running-next}
+use Rattle.kernels.specs.Fixed.{thirdBox}
+use Rattle.plate.specs.code.Passes.{Starts, InOrder}
+use Rattle.plate.proofs.showing.Writes.{writing-all}
+use Rattle.plate.proofs.showing.RowSums.{SummingAt, summing-start, summing-next}
 use Rattle.plate.proofs.pass.sum_row.Statement.{statement}
 use Rattle.plate.proofs.pass.sum_row.Tie as tie
 
+abbrev rowStarts : ℕ → ℕ → ℕ → ℕ → ℕ → ℕ → ℕ → ℕ → ℕ → Starts
+rowStarts third second falling-one falling-two rising-one rising-two down marks apart =
+    record {
+      third = third;
+      second = second;
+      «falling_one» = falling-one;
+      «falling_two» = falling-two;
+      «rising_one» = rising-one;
+      «rising_two» = rising-two;
+      down = down;
+      marks = marks;
+      apart = apart;
+    }
+
 abbrev Inv-loop : tie.InvT-loop
-Inv-loop s₀ m p g n third second down downs up ups total sums₀ i₀ s sums i = (i ≤ n) × Running m s₀ s (record { third = third; second = second; down = down; downs = downs; up = up; ups = ups; total = total }) p g n i sums
+Inv-loop scratch₀ planes columns third second falling-one falling-two rising-one rising-two down marks apart sums₀ x₀ scratch sums x =
+    (x ≤ columns)
+    × SummingAt planes scratch₀ scratch (rowStarts third second falling-one falling-two rising-one rising-two down marks apart) columns x sums
 
 abbrev μ-loop : tie.MeasureT-loop
-μ-loop s₀ m p g n third second down downs up ups total sums₀ i₀ s sums i = n - i
+μ-loop scratch₀ planes columns third second falling-one falling-two rising-one rising-two down marks apart sums₀ x₀ scratch sums x = columns - x
 
 loop-holds : tie.Need-loop-holds Inv-loop μ-loop
-loop-holds c = (search needs, running-start _ _ _ _ _ _)
+loop-holds c = (search needs, summing-start _ _ _ _)
 
-add-c : tie.Need-add-c Inv-loop μ-loop
-add-c c = search needs
+-- there is room for one more column
+here : (c : tie.In-loop Inv-loop μ-loop)
+    → let a = c .before .before .before .before .args in
+    InOrder (a .starts) (c .before .loop .x + 1) (length (c .before .loop .scratch)) (length (a .planes .now))
+here c =
+    let start = c .before .before .before .before in
+    omega (arith, c .loop-test .taken, c .before .loop .inv .1 .row .same, start .pre)
 
-add-box-cell : tie.Need-add-box-cell Inv-loop μ-loop
-add-box-cell c = search needs
+fits : (c : tie.In-loop Inv-loop μ-loop)
+    → let a = c .before .before .before .before .args in
+    (a .starts .down + (c .before .loop .x + 1) < 2 ^ 64)
+    × (a .starts .marks + thirdBox * a .starts .apart + (c .before .loop .x + 1) < 2 ^ 64)
+fits c =
+    let start = c .before .before .before .before in
+    omega (arith, c .loop-test .taken, start .pre, start .good)
 
-add-box-cell-2 : tie.Need-add-box-cell-2 Inv-loop μ-loop
-add-box-cell-2 c = search needs
+abbrev boxed : tie.After-add-boxes Inv-loop μ-loop → tie.In-loop Inv-loop μ-loop
+boxed c = c .before .before
 
-box-cell-requires : tie.Need-box-cell-requires Inv-loop μ-loop
-box-cell-requires c κs = search needs
+abbrev fallen : tie.After-add-marks Inv-loop μ-loop → tie.After-add-boxes Inv-loop μ-loop
+fallen c = c .before .before .before .before
 
-add-fall : tie.Need-add-fall Inv-loop μ-loop
-add-fall c = search needs
+abbrev risen : tie.After-take-marks-off Inv-loop μ-loop → tie.After-add-marks Inv-loop μ-loop
+risen c = c .before .before .before .before
 
-mul-fall : tie.Need-mul-fall Inv-loop μ-loop
-mul-fall c = search needs
+add-mark : tie.Need-add-mark Inv-loop μ-loop
+add-mark c = omega (arith, here c, fits c)
 
-add-fall-2 : tie.Need-add-fall-2 Inv-loop μ-loop
-add-fall-2 c = search needs
+add-add-boxes : tie.Need-add-add-boxes Inv-loop μ-loop
+add-add-boxes c = omega (arith, here (c .before), fits (c .before))
 
-fall-requires : tie.Need-fall-requires Inv-loop μ-loop
-fall-requires c κs = search needs
+add-add-boxes-2 : tie.Need-add-add-boxes-2 Inv-loop μ-loop
+add-add-boxes-2 c = omega (arith, here (c .before), fits (c .before))
 
-add-fall-3 : tie.Need-add-fall-3 Inv-loop μ-loop
-add-fall-3 c = search needs
+add-boxes-requires : tie.Need-add-boxes-requires Inv-loop μ-loop
+add-boxes-requires c κs = omega (arith, here (c .before))
 
-mul-fall-2 : tie.Need-mul-fall-2 Inv-loop μ-loop
-mul-fall-2 c = search needs
+mul-fall-one : tie.Need-mul-fall-one Inv-loop μ-loop
+mul-fall-one c = let test = boxed (c .before .before) in omega (arith, here test, fits test)
 
-add-fall-4 : tie.Need-add-fall-4 Inv-loop μ-loop
-add-fall-4 c = search needs
+add-fall-one : tie.Need-add-fall-one Inv-loop μ-loop
+add-fall-one c = let test = boxed (c .before .before) in omega (arith, here test, fits test)
 
-fall-requires-2 : tie.Need-fall-requires-2 Inv-loop μ-loop
-fall-requires-2 c κs = search needs
+mul-fall-two : tie.Need-mul-fall-two Inv-loop μ-loop
+mul-fall-two c = let test = boxed (c .before .before) in omega (arith, here test, fits test)
 
-add-rise : tie.Need-add-rise Inv-loop μ-loop
-add-rise c = search needs
+add-fall-two : tie.Need-add-fall-two Inv-loop μ-loop
+add-fall-two c = let test = boxed (c .before .before) in omega (arith, here test, fits test)
 
-add-rise-2 : tie.Need-add-rise-2 Inv-loop μ-loop
-add-rise-2 c = search needs
+mul-rise-one : tie.Need-mul-rise-one Inv-loop μ-loop
+mul-rise-one c = let test = boxed (c .before .before) in omega (arith, here test, fits test)
 
-rise-requires : tie.Need-rise-requires Inv-loop μ-loop
-rise-requires c κs = search needs
+add-rise-one : tie.Need-add-rise-one Inv-loop μ-loop
+add-rise-one c = let test = boxed (c .before .before) in omega (arith, here test, fits test)
 
-add-rise-3 : tie.Need-add-rise-3 Inv-loop μ-loop
-add-rise-3 c = search needs
+mul-rise-two : tie.Need-mul-rise-two Inv-loop μ-loop
+mul-rise-two c = let test = boxed (c .before .before) in omega (arith, here test, fits test)
 
-rise-requires-2 : tie.Need-rise-requires-2 Inv-loop μ-loop
-rise-requires-2 c κs = search needs
+add-rise-two : tie.Need-add-rise-two Inv-loop μ-loop
+add-rise-two c = let test = boxed (c .before .before) in omega (arith, here test, fits test)
 
-add-raise : tie.Need-add-raise Inv-loop μ-loop
-add-raise c = omega (arith, c .before .before .before .before .before .before .before .before .before .before .before .before .before .before .before .before .before .before .before .before .before .before .before .before .before .pre, c .before .before .before .before .before .before .before .before .before .before .before .before .before .before .before .before .before .before .before .before .before .before .before .before .before .good, c .before .before .before .before .before .before .before .before .before .before .before .before .before .before .before .before .before .before .before .before .before .loop-test .taken)
+add-add-marks : tie.Need-add-add-marks Inv-loop μ-loop
+add-add-marks c = let test = boxed (c .before .before .before) in omega (arith, here test, fits test)
 
-five-requires : tie.Need-five-requires Inv-loop μ-loop
-five-requires c κs = search needs
+add-add-marks-2 : tie.Need-add-add-marks-2 Inv-loop μ-loop
+add-add-marks-2 c = let test = boxed (c .before .before .before) in omega (arith, here test, fits test)
 
-raise-requires : tie.Need-raise-requires Inv-loop μ-loop
-raise-requires c κs = omega (arith, c .before .before .before .before .before .before .before .before .before .before .before .before .before .before .before .before .before .before .before .before .before .before .before .before .before .before .pre, c .before .before .before .before .before .before .before .before .before .before .before .before .before .before .before .before .before .before .before .before .before .before .loop-test .taken, c .before .before .before .s5 .given, c .before .before .before .before .before .before .before .s4 .given, c .before .before .before .before .before .before .before .before .before .before .before .s3 .given, c .before .before .before .before .before .before .before .before .before .before .before .before .before .before .before .s2 .given, c .before .before .before .before .before .before .before .before .before .before .before .before .before .before .before .before .before .before .before .s .given, c .before .before .before .before .before .before .before .before .before .before .before .before .before .before .before .before .before .before .before .before .before .before .before .loop .inv .1 .row .same)
+add-marks-requires : tie.Need-add-marks-requires Inv-loop μ-loop
+add-marks-requires c κs =
+    let boxes = c .before .before in
+    omega (arith, here (boxed (boxes .before)), boxes .scratch .given)
 
-add-i : tie.Need-add-i Inv-loop μ-loop
-add-i c = omega (arith, c .before .before .before .before .before .before .before .before .before .before .before .before .before .before .before .before .before .before .before .before .before .before .before .before .before .loop-test .taken, c .before .before .before .before .before .before .before .before .before .before .before .before .before .before .before .before .before .before .before .before .before .before .before .before .before .before .before .before .before .good, c .before .before .before .before .before .before .before .before .before .before .before .before .before .before .before .before .before .before .before .before .before .before .before .before .before .before .before .before .before .fits)
+add-take-marks-off : tie.Need-add-take-marks-off Inv-loop μ-loop
+add-take-marks-off c = let test = boxed (fallen (c .before .before .before)) in omega (arith, here test, fits test)
+
+add-take-marks-off-2 : tie.Need-add-take-marks-off-2 Inv-loop μ-loop
+add-take-marks-off-2 c = let test = boxed (fallen (c .before .before .before)) in omega (arith, here test, fits test)
+
+take-marks-off-requires : tie.Need-take-marks-off-requires Inv-loop μ-loop
+take-marks-off-requires c κs =
+    let falling = c .before .before in
+    let boxes = falling .before .before .before .before in
+    omega (arith, here (boxes .before .before .before), boxes .scratch .given, falling .scratch2 .given)
+
+add-add-to : tie.Need-add-add-to Inv-loop μ-loop
+add-add-to c = let test = boxed (fallen (risen (c .before .before .before))) in omega (arith, here test, fits test)
+
+add-three-requires : tie.Need-add-three-requires Inv-loop μ-loop
+add-three-requires c κs = search needs
+
+add-to-requires : tie.Need-add-to-requires Inv-loop μ-loop
+add-to-requires c κs =
+    let rising = c .before .before .before in
+    let falling = rising .before .before .before .before in
+    let boxes = falling .before .before .before .before in
+    omega (arith, here (boxes .before .before .before), boxes .scratch .given, falling .scratch2 .given, rising .scratch3 .given)
+
+add-x : tie.Need-add-x Inv-loop μ-loop
+add-x c =
+    let test = boxed (fallen (risen (c .before .before .before .before .before .before .before))) in
+    omega (arith, test .loop-test .taken, fits test)
 
 loop-less : tie.Need-loop-less Inv-loop μ-loop
-loop-less c = search needs
+loop-less c =
+    let test = boxed (fallen (risen (c .before .before .before .before .before .before .before))) in
+    omega (arith, test .loop-test .taken)
 
 loop-again : tie.Need-loop-again Inv-loop μ-loop
 loop-again c =
-    let l = c .before .before .before .before .before .before .before .before .before .before .before .before .before .before .before .before .before .before .before .before .before .before .before .before .before .before .loop in (
-      omega arith,
-      running-next _ _ (l .s) _ _ _ _ _ _ _ _ _ _ (l .i) _ _ _ _ _ _ _ _ (c .before .before .before .before .before .before .before .before .before .before .before .before .before .before .before .before .before .before .before .before .before .before .before .before .before .before .before .before .before .pre .0) (omega arith) (l .inv .1)
-          (c .before .before .before .before .before .before .before .before .before .before .before .before .before .before .before .before .before .before .before .before .before .before .before .box-cell .ensures)
-          (c .before .before .before .before .before .before .before .before .before .before .before .before .before .before .before .before .before .before .before .fall .ensures)
-          (c .before .before .before .before .before .before .before .before .before .before .before .before .before .before .before .fall2 .ensures)
-          (c .before .before .before .before .before .before .before .before .before .before .before .rise .ensures)
-          (c .before .before .before .before .before .before .before .rise2 .ensures)
-          (c .before .before .before .five .ensures)
-          (c .before .before .raise .ensures),
+    let down = c .before .before in
+    let rising = down .before .before .before .before .before in
+    let falling = risen rising in
+    let boxes = fallen falling in
+    let test = boxed boxes in
+    let turn = test .before .loop in
+    let start = test .before .before .before .before in (
+      omega (arith, test .loop-test .taken),
+      summing-next _ _ (turn .scratch) _ _ _ _ _ _ _ (turn .x) _ _ _ _ _ _ (start .pre) (test .loop-test .taken) (turn .inv .1)
+          (boxes .add-boxes .ensures) (falling .add-marks .ensures) (rising .take-marks-off .ensures)
+          (down .before .add-three .ensures) (down .add-to .ensures),
     )
 
 same-length : tie.Need-same-length Inv-loop μ-loop
 same-length c = search needs
 
 returns : tie.Need-returns Inv-loop μ-loop
-returns c = sweep-all _ _ _ _ _ _ (c .before .loop .i) (omega arith) (c .before .loop .inv .1 .row)
+returns c = writing-all _ _ _ _ _ _ (c .before .loop .x) (omega arith) (c .before .loop .inv .1 .row)
 
 pub sum-row-spec : {M : Type 1} → statement M
 sum-row-spec =
@@ -109,27 +170,28 @@ sum-row-spec =
     Inv-loop
     μ-loop
     loop-holds
-    add-c
-    add-box-cell
-    add-box-cell-2
-    box-cell-requires
-    add-fall
-    mul-fall
-    add-fall-2
-    fall-requires
-    add-fall-3
-    mul-fall-2
-    add-fall-4
-    fall-requires-2
-    add-rise
-    add-rise-2
-    rise-requires
-    add-rise-3
-    rise-requires-2
-    add-raise
-    five-requires
-    raise-requires
-    add-i
+    add-mark
+    add-add-boxes
+    add-add-boxes-2
+    add-boxes-requires
+    mul-fall-one
+    add-fall-one
+    mul-fall-two
+    add-fall-two
+    mul-rise-one
+    add-rise-one
+    mul-rise-two
+    add-rise-two
+    add-add-marks
+    add-add-marks-2
+    add-marks-requires
+    add-take-marks-off
+    add-take-marks-off-2
+    take-marks-off-requires
+    add-add-to
+    add-three-requires
+    add-to-requires
+    add-x
     loop-less
     loop-again
     same-length

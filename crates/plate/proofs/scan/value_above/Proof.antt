@@ -3,49 +3,55 @@ use mathlib.Core.Path.{_≡_, refl, sym, _∙_}
 use mathlib.Core.Bool.{false}
 use Prim.Native.Nat.{_+_, _*_, _-_, _≤_}
 use native.Mathlib.Omega.{arith}
+use lib.Dec.{ltb}
 use lib.ListN.{length}
 use borrow.Author.Count.{below-more}
+use borrow.Author.Tests.{lt-ltb, le-ltb}
 use borrow.Author.Needs.{needs}
-use Rattle.plate.proofs.Scans.{NoneTo, row-within, none-found, one-found}
+use Rattle.plate.proofs.numbers.Extents.{row-in}
+use Rattle.plate.proofs.checks.Scans.{NoneTo, none-found, one-found}
 use Rattle.plate.proofs.scan.value_above.Statement.{statement}
 use Rattle.plate.proofs.scan.value_above.Tie as tie
+use Rattle.kernels.specs.Fixed.{valueTop}
 
 abbrev Inv-loop : tie.InvT-loop
-Inv-loop values width height found₀ y start x₀ found x = (x ≤ width) × (found ≡ false) × NoneTo 4095 values (start + x)
+Inv-loop values size found₀ y start x₀ y-end x-end found x = (x ≤ x-end) × (found ≡ false) × NoneTo (ltb valueTop) values (start + x)
 
 abbrev μ-loop : tie.MeasureT-loop
-μ-loop values width height found₀ y start x₀ found x = width - x
+μ-loop values size found₀ y start x₀ y-end x-end found x = x-end - x
 
 abbrev Inv-rows : tie.InvT-rows
-Inv-rows values width height found₀ y₀ found y = (y ≤ height) × (found ≡ false) × NoneTo 4095 values (y * width)
+Inv-rows values size found₀ y₀ y-end found y = (y ≤ y-end) × (found ≡ false) × NoneTo (ltb valueTop) values (y * size .width)
 
 abbrev μ-rows : tie.MeasureT-rows
-μ-rows values width height found₀ y₀ found y = height - y
+μ-rows values size found₀ y₀ y-end found y = y-end - y
 
 -- the whole row lies in the list
 row : (c : tie.In-rows Inv-loop μ-loop Inv-rows μ-rows)
-    → let a = c .before .before .args in c .before .rows .y * a .width + a .width ≤ length (a .values .now)
+    → let a = c .before .before .args in c .before .rows .y * a .size .width + a .size .width ≤ length (a .values .now)
 row c =
-    let a = c .before .before .args in
-    omega (arith, row-within (c .before .rows .y) (a .width) (a .height) (c .rows-test .taken), c .before .before .pre)
+    let start = c .before .before in
+    let z = start .args .size in
+    omega (arith, row-in (c .before .rows .y) (z .width) (z .height) (c .rows-test .taken), start .pre)
 
 rows-holds : tie.Need-rows-holds Inv-loop μ-loop Inv-rows μ-rows
 rows-holds c = (search needs, refl, λ i l. absurd (omega arith))
 
 mul-start : tie.Need-mul-start Inv-loop μ-loop Inv-rows μ-rows
-mul-start c = omega (arith, row c)
+mul-start c = omega (arith, row (c .before))
 
 loop-holds : tie.Need-loop-holds Inv-loop μ-loop Inv-rows μ-rows
-loop-holds c = (search needs, c .before .rows .inv .1, λ i l. c .before .rows .inv .2 i (omega arith))
+loop-holds c =
+    (search needs, c .before .before .rows .inv .1, λ i l. c .before .before .rows .inv .2 i (omega arith))
 
 add-if1 : tie.Need-add-if1 Inv-loop μ-loop Inv-rows μ-rows
-add-if1 c = omega (arith, row (c .before .before))
+add-if1 c = omega (arith, row (c .before .before .before))
 
 mul-if1 : tie.Need-mul-if1 Inv-loop μ-loop Inv-rows μ-rows
-mul-if1 c = omega (arith, row (c .before .before))
+mul-if1 c = omega (arith, row (c .before .before .before))
 
 shared-slice-read-if1 : tie.Need-shared-slice-read-if1 Inv-loop μ-loop Inv-rows μ-rows
-shared-slice-read-if1 c = omega (arith, row (c .before .before .before))
+shared-slice-read-if1 c = omega (arith, row (c .before .before .before .before))
 
 add-x : tie.Need-add-x Inv-loop μ-loop Inv-rows μ-rows
 add-x c = search needs
@@ -56,7 +62,7 @@ loop-less c = search needs
 loop-again : tie.Need-loop-again Inv-loop μ-loop Inv-rows μ-rows
 loop-again c =
     let turn = c .before .before .before .loop in
-    (omega arith, turn .inv .1, λ i l. below-more _ _ (turn .inv .2) (c .if1 .left) i (omega arith))
+    (omega arith, turn .inv .1, λ i l. below-more _ _ (turn .inv .2) (le-ltb _ _ (c .if1 .left)) i (omega arith))
 
 add-y : tie.Need-add-y Inv-loop μ-loop Inv-rows μ-rows
 add-y c = search needs
@@ -72,20 +78,22 @@ rows-again c =
 returns : tie.Need-returns Inv-loop μ-loop Inv-rows μ-rows
 returns c =
     let turn = c .before .rows in
-    let a = c .before .before .args in
+    let start = c .before .before in
+    let z = start .args .size in
     turn .inv .1
-    ∙ sym (none-found 4095 _ (a .width) (a .height) (turn .y) (c .before .before .pre) (c .rows-test .left) (turn .inv .2))
+    ∙ sym (none-found (ltb valueTop) _ (z .width) (z .height) (turn .y) (start .pre) (c .rows-test .left) (turn .inv .2))
 
 returns-2 : tie.Need-returns-2 Inv-loop μ-loop Inv-rows μ-rows
 returns-2 c =
     let turn = c .before .before in
-    let rows = turn .before .before in
-    let a = rows .before .before .args in
-    sym (one-found 4095 _ (a .width) (a .height) (turn .before .loop .x) (rows .before .rows .y)
-    (rows .before .before .pre)
+    let rows = turn .before .before .before in
+    let start = rows .before .before in
+    let z = start .args .size in
+    sym (one-found (ltb valueTop) _ (z .width) (z .height) (turn .before .loop .x) (rows .before .rows .y)
+    (start .pre)
     (turn .loop-test .taken)
     (rows .rows-test .taken)
-    (c .if1 .taken))
+    (lt-ltb _ _ (c .if1 .taken)))
 
 pub value-above-spec : {M : Type 1} → statement M
 value-above-spec =

@@ -1,85 +1,89 @@
--- `show::round_row` meets its contract. The invariant: the columns before i are shown.
+-- `show::round_row` meets its contract. The invariant: the columns before x are shown.
 use Prim.Native.Nat.{_+_, _-_, _≤_}
 use native.Mathlib.Omega.{arith}
 use lib.ListN.{getD}
 use borrow.Author.Needs.{needs}
 use Rattle.kernels.specs.Rounding.{shownValue, shownMatte}
-use Rattle.plate.proofs.Sweeps.{Sweeping, sweep-start, sweep-one, sweep-all}
+use Rattle.plate.specs.code.Showing.{RowIn}
+use Rattle.plate.proofs.showing.Writes.{Writing, writing-start, writing-one, writing-all}
 use Rattle.plate.proofs.show.round_row.Statement.{statement}
 use Rattle.plate.proofs.show.round_row.Tie as tie
 
 abbrev Inv-loop : tie.InvT-loop
-Inv-loop v₀ o₀ s at l d n i₀ v o i =
-    (i ≤ n)
-    × Sweeping 1 n (λ c. at) (λ c i. shownValue (getD s (l + i) 0) (getD s (d + i) 0)) v₀ v i 0
-    × Sweeping 1 n (λ c. at) (λ c i. shownMatte (getD s (d + i) 0)) o₀ o i 0
+Inv-loop values₀ mattes₀ scratch light matte first width x₀ values mattes x =
+    (x ≤ width)
+    × Writing 1 width (λ c. first) (λ c x. shownValue (getD scratch (light + x) 0) (getD scratch (matte + x) 0)) values₀ values x 0
+    × Writing 1 width (λ c. first) (λ c x. shownMatte (getD scratch (matte + x) 0)) mattes₀ mattes x 0
 
 abbrev μ-loop : tie.MeasureT-loop
-μ-loop v₀ o₀ s at l d n i₀ v o i = n - i
+μ-loop values₀ mattes₀ scratch light matte first width x₀ values mattes x = width - x
 
 loop-holds : tie.Need-loop-holds Inv-loop μ-loop
-loop-holds c = (search needs, sweep-start _ _ _ _ _, sweep-start _ _ _ _ _)
+loop-holds c = (search needs, writing-start _ _ _ _ _, writing-start _ _ _ _ _)
+
+abbrev start : tie.In-loop Inv-loop μ-loop → tie.Start Inv-loop μ-loop
+start c = c .before .before .before .before .before
+
+-- there is room for one more column
+here : (c : tie.In-loop Inv-loop μ-loop)
+    → let a = start c .args in
+    let turn = c .before .loop in
+    RowIn (a .scratch .now) (turn .values) (turn .mattes) (a .light) (a .matte) (a .first) (turn .x + 1)
+here c =
+    let turn = c .before .loop in
+    omega (arith, c .loop-test .taken, start c .pre, turn .inv .1 .same, turn .inv .2 .same)
+
+add-place : tie.Need-add-place Inv-loop μ-loop
+add-place c = omega (arith, here c, start c .good)
+
+add-matte-sum : tie.Need-add-matte-sum Inv-loop μ-loop
+add-matte-sum c = omega (arith, here c, start c .good)
+
+mul-matte-sum : tie.Need-mul-matte-sum Inv-loop μ-loop
+mul-matte-sum c = omega (arith, here c, start c .good)
+
+shared-slice-read-matte-sum : tie.Need-shared-slice-read-matte-sum Inv-loop μ-loop
+shared-slice-read-matte-sum c = omega (arith, here (c .before), start (c .before) .good)
 
 add-shown-value : tie.Need-add-shown-value Inv-loop μ-loop
-add-shown-value c = search needs
+add-shown-value c = omega (arith, here (c .before), start (c .before) .good)
 
 mul-shown-value : tie.Need-mul-shown-value Inv-loop μ-loop
-mul-shown-value c = search needs
+mul-shown-value c = omega (arith, here (c .before), start (c .before) .good)
 
 shared-slice-read-shown-value : tie.Need-shared-slice-read-shown-value Inv-loop μ-loop
-shared-slice-read-shown-value c = search needs
-
-add-shown-value-2 : tie.Need-add-shown-value-2 Inv-loop μ-loop
-add-shown-value-2 c = search needs
-
-mul-shown-value-2 : tie.Need-mul-shown-value-2 Inv-loop μ-loop
-mul-shown-value-2 c = search needs
-
-shared-slice-read-shown-value-2 : tie.Need-shared-slice-read-shown-value-2 Inv-loop μ-loop
-shared-slice-read-shown-value-2 c = search needs
+shared-slice-read-shown-value c = omega (arith, here (c .before .before), start (c .before .before) .good)
 
 shown-value-requires : tie.Need-shown-value-requires Inv-loop μ-loop
 shown-value-requires c κs = search needs
 
-add-v : tie.Need-add-v Inv-loop μ-loop
-add-v c = search needs
+mul-values : tie.Need-mul-values Inv-loop μ-loop
+mul-values c = omega (arith, here (c .before .before .before), start (c .before .before .before) .good)
 
-mul-v : tie.Need-mul-v Inv-loop μ-loop
-mul-v c = search needs
-
-slice-write-v : tie.Need-slice-write-v Inv-loop μ-loop
-slice-write-v c = search needs
-
-add-shown-matte : tie.Need-add-shown-matte Inv-loop μ-loop
-add-shown-matte c = search needs
-
-mul-shown-matte : tie.Need-mul-shown-matte Inv-loop μ-loop
-mul-shown-matte c = search needs
-
-shared-slice-read-shown-matte : tie.Need-shared-slice-read-shown-matte Inv-loop μ-loop
-shared-slice-read-shown-matte c = search needs
+slice-write-values : tie.Need-slice-write-values Inv-loop μ-loop
+slice-write-values c = omega (arith, here (c .before .before .before), start (c .before .before .before) .good)
 
 shown-matte-requires : tie.Need-shown-matte-requires Inv-loop μ-loop
 shown-matte-requires c κs = search needs
 
-add-o : tie.Need-add-o Inv-loop μ-loop
-add-o c = search needs
+slice-write-mattes : tie.Need-slice-write-mattes Inv-loop μ-loop
+slice-write-mattes c = omega (arith, here (c .before .before .before .before), start (c .before .before .before .before) .good)
 
-slice-write-o : tie.Need-slice-write-o Inv-loop μ-loop
-slice-write-o c = search needs
-
-add-i : tie.Need-add-i Inv-loop μ-loop
-add-i c = search needs
+add-x : tie.Need-add-x Inv-loop μ-loop
+add-x c = let test = c .before .before .before .before in omega (arith, test .loop-test .taken, start test .fits)
 
 loop-less : tie.Need-loop-less Inv-loop μ-loop
-loop-less c = search needs
+loop-less c = omega (arith, c .before .before .before .before .loop-test .taken)
 
 loop-again : tie.Need-loop-again Inv-loop μ-loop
 loop-again c =
-    let l = c .before .before .before .before .before .before .loop in (
-      omega arith,
-      sweep-one _ _ _ _ (l .v) (l .i) _ (omega arith) (omega arith) (l .inv .1) (c .before .before .shown-value .ensures),
-      sweep-one _ _ _ _ (l .o) (l .i) _ (omega arith) (omega arith) (l .inv .2) (c .shown-matte .ensures),
+    let valued = c .before in
+    let test = valued .before .before .before in
+    let turn = test .before .loop in
+    let pre = start test .pre in (
+      omega (arith, test .loop-test .taken),
+      writing-one _ _ _ _ (turn .values) (turn .x) _ (test .loop-test .taken) (pre .values-in) (turn .inv .1) (valued .shown-value .ensures),
+      writing-one _ _ _ _ (turn .mattes) (turn .x) _ (test .loop-test .taken) (pre .mattes-in) (turn .inv .2) (c .shown-matte .ensures),
     )
 
 same-length : tie.Need-same-length Inv-loop μ-loop
@@ -90,8 +94,11 @@ same-length-2 c = search needs
 
 returns : tie.Need-returns Inv-loop μ-loop
 returns c =
-    let l = c .before .loop in
-    (sweep-all _ _ _ _ _ _ (l .i) (omega arith) (l .inv .1), sweep-all _ _ _ _ _ _ (l .i) (omega arith) (l .inv .2))
+    let turn = c .before .loop in
+    record {
+      in-values = writing-all _ _ _ _ _ _ (turn .x) (omega arith) (turn .inv .1);
+      in-mattes = writing-all _ _ _ _ _ _ (turn .x) (omega arith) (turn .inv .2);
+    }
 
 pub round-row-spec : {M : Type 1} → statement M
 round-row-spec =
@@ -100,23 +107,19 @@ round-row-spec =
     Inv-loop
     μ-loop
     loop-holds
+    add-place
+    add-matte-sum
+    mul-matte-sum
+    shared-slice-read-matte-sum
     add-shown-value
     mul-shown-value
     shared-slice-read-shown-value
-    add-shown-value-2
-    mul-shown-value-2
-    shared-slice-read-shown-value-2
     shown-value-requires
-    add-v
-    mul-v
-    slice-write-v
-    add-shown-matte
-    mul-shown-matte
-    shared-slice-read-shown-matte
+    mul-values
+    slice-write-values
     shown-matte-requires
-    add-o
-    slice-write-o
-    add-i
+    slice-write-mattes
+    add-x
     loop-less
     loop-again
     same-length

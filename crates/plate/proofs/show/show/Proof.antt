@@ -1,10 +1,23 @@
 -- `show::show` meets its contract: what the check lets pass is all that `show_all` counts on.
-use mathlib.Core.Path.{sym, _∙_}
+use mathlib.Core.Path.{_≡_, sym, _∙_}
+use denote.Ref.{now}
+use lib.ListN.{length}
 use borrow.Author.Needs.{needs}
+use Rattle.plate.specs.Refusal.{Accepted, showCheck}
 use Rattle.plate.specs.Calls.{showBy, showCall}
-use Rattle.plate.proofs.Views.{show-ready}
+use Rattle.plate.proofs.showing.Image.{show-ready}
 use Rattle.plate.proofs.show.show.Statement.{statement}
 use Rattle.plate.proofs.show.show.Tie as tie
+
+abbrev start : tie.After-enum-told → tie.Start
+start c = c .before .before .before .before .before .before .before
+
+-- the check passed
+passed : (c : tie.After-enum-told)
+    → let a = start c .args in
+    showCheck (a .state) (length (now (a .planes))) (length (now (a .scratch))) (length (now (a .values))) (length (now (a .mattes)))
+    ≡ Accepted
+passed c = sym (c .before .before .check-show .ensures) ∙ c .enum-told .given .1
 
 check-show-requires : tie.Need-check-show-requires
 check-show-requires c κs = search needs
@@ -20,7 +33,7 @@ unfolding showCall showBy
 returns c = let told = c .enum-told2 .given .1 in rw (told, sym (c .before .before .check-show .ensures) ∙ told)
 
 show-all-requires : tie.Need-show-all-requires
-show-all-requires c κs = show-ready _ _ _ _ _ (sym (c .before .before .before .before .before .check-show .ensures) ∙ c .before .before .before .enum-told .given .1)
+show-all-requires c κs = show-ready _ _ _ _ _ (passed (c .before .before .before))
 
 same-length : tie.Need-same-length
 same-length c = search needs
@@ -33,7 +46,9 @@ same-length-3 c = search needs
 
 returns-2 : tie.Need-returns-2
 unfolding showCall
-returns-2 c = c .before .before .before .before .before .before .show-all .ensures ∙ rw (sym (c .before .before .before .before .before .before .before .before .before .before .before .before .check-show .ensures) ∙ c .before .before .before .before .before .before .before .before .before .before .enum-told .given .1)
+returns-2 c =
+    let done = c .before .before .before .before .before .before in
+    done .show-all .ensures ∙ rw (passed (done .before .before .before .before))
 
 pub show-spec : {M : Type 1} → statement M
 show-spec =

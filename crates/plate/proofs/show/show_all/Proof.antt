@@ -1,61 +1,49 @@
 -- `show::show_all` meets its contract: the rows of the image show the finished sums, and the scratch is cleared at the end.
-use mathlib.Core.Path.{_∙_}
-use Prim.Native.Nat.{_-_}
+use mathlib.Core.Path.{_≡_, ap, _∙_}
+use Prim.Native.Nat.{ℕ, _+_, _-_, _≤_}
 use native.Mathlib.Omega.{arith}
+use lib.ListN.{length}
 use borrow.Author.Needs.{needs}
-use Rattle.plate.proofs.Pairs.{planned-on}
-use Rattle.plate.proofs.Views.{ready-planned, all-shown}
+use Rattle.plate.specs.Calls.{zeros}
+use Rattle.plate.specs.code.Passes.{Picture}
+use Rattle.plate.specs.code.Showing.{BothIn}
+use Rattle.plate.proofs.showing.BothPictures.{both-on}
+use Rattle.plate.proofs.showing.Image.{ready-both, all-shown}
 use Rattle.plate.proofs.show.show_all.Statement.{statement}
 use Rattle.plate.proofs.show.show_all.Tie as tie
 
-add-b : tie.Need-add-b
-add-b c = search needs
+abbrev start : tie.After-light-picture → tie.Start
+start c = c .before .before .before .before .before .before
 
-mul-w : tie.Need-mul-w
-mul-w c = search needs
+fits : (c : tie.After-light-picture) → BothIn (c .light-picture .result) (start c .args .scratch .now) (start c .args .planes .now)
+fits c = ready-both _ _ _ _ _ _ (c .light-picture .ensures) (start c .pre)
 
-add-w : tie.Need-add-w
-add-w c = search needs
+light-picture-requires : tie.Need-light-picture-requires
+light-picture-requires c κs = c .before .before .before .before .before .pre .lawful
 
-add-w-2 : tie.Need-add-w-2
-add-w-2 c = search needs
+add-t9 : tie.Need-add-t9
+add-t9 c = omega (arith, start (c .before) .pre .lawful .reach-top)
 
-mul-h : tie.Need-mul-h
-mul-h c = search needs
+sum-above-requires : tie.Need-sum-above-requires
+sum-above-requires c κs =
+    let made = c .before .before in
+    let high = ap (λ (p : Picture). p .high) (made .light-picture .ensures) in
+    record { fits = fits made; low = omega (arith, high, start made .pre) }
 
-add-h : tie.Need-add-h
-add-h c = search needs
-
-add-h-2 : tie.Need-add-h-2
-add-h-2 c = search needs
-
-add-ready : tie.Need-add-ready
-add-ready c = search needs
-
-ready-requires : tie.Need-ready-requires
-ready-requires c κs = ready-planned _ _ _ _ _ (c .before .before .before .before .before .before .before .before .pre)
-
-add-rows-above : tie.Need-add-rows-above
-add-rows-above c = search needs
-
-rows-above-requires : tie.Need-rows-above-requires
-rows-above-requires c κs =
-    let a = c .before .before .before .before .before .before .before .before .before .before .before .before .args in
-    let e = c .before .before .before .ready .ensures in (
-      planned-on (a .scratch .now) (a .planes .now) _ _ _ (ready-planned _ _ _ _ _ (c .before .before .before .before .before .before .before .before .before .before .before .before .pre)) _ (e .0),
-      (omega (arith, c .before .before .before .before .before .before .before .before .before .before .before .before .pre), e .1),
-    )
-
-rows-shown-requires : tie.Need-rows-shown-requires
-rows-shown-requires c κs =
-    let a = c .before .before .before .before .before .before .before .before .before .before .before .before .before .before .before .before .before .before .args in
-    let e = c .before .before .before .before .before .rows-above .ensures in (
-      (omega arith, c .before .before .before .before .before .before .before .before .before .before .before .before .before .before .before .before .before .before .pre .values-are, c .before .before .before .before .before .before .before .before .before .before .before .before .before .before .before .before .before .before .pre .mattes-are),
-      (
-        planned-on (a .scratch .now) (a .planes .now) _ _ _ (ready-planned _ _ _ _ _ (c .before .before .before .before .before .before .before .before .before .before .before .before .before .before .before .before .before .before .pre)) _ (e .0 ∙ c .before .before .before .before .before .before .before .before .before .ready .ensures .0),
-        e .1,
-      ),
-    )
+show-rows-requires : tie.Need-show-rows-requires
+show-rows-requires c κs =
+    let summed = c .before .before .before .before .before in
+    let made = summed .before .before .before in
+    let columns = ap (λ (p : Picture). p .columns) (made .light-picture .ensures) in
+    let high = ap (λ (p : Picture). p .high) (made .light-picture .ensures) in
+    record {
+      fits = both-on _ _ _ (fits made) _ (summed .sum-above .ensures .same);
+      to = summed .sum-above .ensures .to;
+      columns-are = omega (arith, columns);
+      rows-in = omega (arith, high, start made .pre);
+      values-are = start made .pre .values-are;
+      mattes-are = start made .pre .mattes-are;
+    }
 
 clear-requires : tie.Need-clear-requires
 clear-requires c κs = search needs
@@ -71,29 +59,26 @@ same-length-3 c = search needs
 
 returns : tie.Need-returns
 returns c =
-    all-shown (c .before .before .before .before .before .before .before .before .before .before .before .before .before .before .before .before .before .before .before .before .before .before .before .before .before .before .before .before .before .args .state) _ _ (c .before .before .before .before .before .before .before .before .before .before .rows-shown .last .1 .1 .0) _ _ _ _ _ (c .before .before .before .before .before .before .before .before .before .before .before .before .before .before .before .before .before .before .before .before .before .before .before .before .before .before .before .before .before .pre)
-    (omega (arith, c .before .before .before .before .before .scratch3 .given, c .before .before .before .before .before .before .before .before .before .before .before .before .before .before .before .before .rows-above .ensures .0, c .before .before .before .before .before .before .before .before .before .before .before .before .before .before .before .before .before .before .before .before .ready .ensures .0))
-    (omega (arith, c .before .before .before .before .before .before .before .before .before .values .given))
-    (omega (arith, c .before .before .before .before .before .before .before .mattes .given))
-    (c .before .before .before .before .before .before .before .before .before .before .rows-shown .ensures)
-    (c .before .before .clear .ensures)
+    let cleared = c .before .before in
+    let seen = cleared .before .before .before in
+    let shown = seen .before .before .before .before .before in
+    let summed = shown .before .before .before .before .before .before in
+    let made = summed .before .before .before in
+    all-shown (start made .args .state) _ _ (shown .show-rows .last .1 .1 .0) _ _ _ _ _ (start made .pre)
+    (omega (arith, seen .scratch2 .given, summed .sum-above .ensures .same))
+    (omega (arith, seen .before .before .before .before .values .given))
+    (omega (arith, seen .before .before .mattes .given))
+    (rw (made .light-picture .ensures) at (shown .show-rows .ensures))
+    (cleared .clear .ensures)
 
 pub show-all-spec : {M : Type 1} → statement M
 show-all-spec =
     tie.close
     (tie.spec
-    add-b
-    mul-w
-    add-w
-    add-w-2
-    mul-h
-    add-h
-    add-h-2
-    add-ready
-    ready-requires
-    add-rows-above
-    rows-above-requires
-    rows-shown-requires
+    light-picture-requires
+    add-t9
+    sum-above-requires
+    show-rows-requires
     clear-requires
     same-length
     same-length-2

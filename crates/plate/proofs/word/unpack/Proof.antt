@@ -8,9 +8,10 @@ use lib.Bits.{and-mask}
 use mir.Facts.{fits-mask}
 use Rattle.kernels.specs.declared.shape.ShapeRead.the-variants.{Known, Unknown}
 use Rattle.plate.specs.Word.{readWord, pixelIn}
-use Rattle.plate.proofs.Fields.{low-word}
+use Rattle.plate.proofs.words.Fields.{low-word}
 use Rattle.plate.proofs.word.unpack.Statement.{statement}
 use Rattle.plate.proofs.word.unpack.Tie as tie
+use Rattle.plate.specs.Fixed.{wordBits}
 
 abbrev start : tie.After-shape → tie.Start
 start c = c .before .before .before .before
@@ -23,7 +24,7 @@ known c = low-word _ _ _ (omega arith) (sym (c .before .before .shape-of .ensure
 
 returns : tie.Need-returns
 unfolding readWord
-returns c = rw (le-leb (2 ^ 32) (c .before .args .word) (omega arith))
+returns c = rw (le-leb (2 ^ wordBits) (c .before .args .word) (omega arith))
 
 cast-shape-of : tie.Need-cast-shape-of
 cast-shape-of c = fits-mask (c .before .args .word / 1048576) 4 tt

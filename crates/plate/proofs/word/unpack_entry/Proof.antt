@@ -3,14 +3,13 @@ use mathlib.Core.Path.{sym, _∙_}
 use native.Mathlib.Omega.{arith}
 use borrow.Author.Needs.{needs}
 use borrow.Author.Tests.{le-leb}
-use Rattle.kernels.proofs.Numbers.{product-le}
 use Rattle.plate.specs.Word.{Broken, readEntry}
-use Rattle.plate.proofs.Fields.{placed-entry}
+use Rattle.plate.proofs.words.Fields.{placed-entry}
 use Rattle.plate.proofs.word.unpack_entry.Statement.{statement}
 use Rattle.plate.proofs.word.unpack_entry.Tie as tie
 
 mul-if1 : tie.Need-mul-if1
-mul-if1 c = omega (arith, product-le (c .args .width) (c .args .height) 4096 4096 (omega arith) (omega arith))
+mul-if1 c = omega (arith, c .before .pre .places-top)
 
 returns : tie.Need-returns
 unfolding readEntry
@@ -27,14 +26,14 @@ enum-told c = search needs
 
 returns-2 : tie.Need-returns-2
 returns-2 c =
-    sym
-    (placed-entry _ _ Broken (c .before .before .before .if1 .left)
-    (sym (c .before .before .unpack .ensures) ∙ c .enum-told .given .1))
+    let read = c .before .before in
+    sym (placed-entry _ _ Broken (read .before .if1 .left) (sym (read .unpack .ensures) ∙ c .enum-told .given .1))
 
 returns-3 : tie.Need-returns-3
 returns-3 c =
-    let read = c .before .before .before in
-    sym (placed-entry _ _ _ (read .before .if1 .left) (sym (read .unpack .ensures) ∙ c .before .pixel .given .1))
+    let known = c .before in
+    let read = known .before .before in
+    sym (placed-entry _ _ _ (read .before .if1 .left) (sym (read .unpack .ensures) ∙ known .pixel .given .1))
 
 pub unpack-entry-spec : {M : Type 1} → statement M
 unpack-entry-spec =

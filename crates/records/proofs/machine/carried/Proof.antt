@@ -2,13 +2,14 @@
 use native.Mathlib.Omega.{arith}
 use borrow.Author.Tests.{lt-ltb, le-ltb}
 use Rattle.records.specs.Machine.{carriedOf}
+use Rattle.records.specs.Fixed.{longestBody}
 use borrow.Author.Needs.{needs}
 use Rattle.records.proofs.machine.carried.Statement.{statement}
 use Rattle.records.proofs.machine.carried.Tie as tie
 
 returns : tie.Need-returns
 unfolding carriedOf
-returns c = let m = c .before .before .args .m in rw (le-ltb (m .held) 9 (omega arith))
+returns c = let m = c .before .before .args .m in rw (le-ltb (m .held) longestBody (omega arith))
 
 array-write-body : tie.Need-array-write-body
 array-write-body c = search needs
@@ -21,7 +22,7 @@ settled-requires c κs = search needs
 
 returns-2 : tie.Need-returns-2
 unfolding carriedOf
-returns-2 c = let m = c .before .before .before .args .m in rw (lt-ltb (m .held) 9 (omega arith)) (c .settled .ensures)
+returns-2 c = let m = c .before .before .before .args .m in rw (lt-ltb (m .held) longestBody (omega arith)) (c .settled .ensures)
 
 pub carried-spec : {M : Type 1} → statement M
 carried-spec = tie.close (tie.spec returns array-write-body add-t10 settled-requires returns-2)

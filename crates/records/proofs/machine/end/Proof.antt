@@ -14,7 +14,7 @@ same-length c = search needs
 
 returns : tie.Need-returns
 unfolding endText
-returns c = let m = c .before .before .before .before .before .before .before .args .m in rw (lt-ltb (m .held) (m .whole) (omega arith)) (c .before .before .stop .ensures .1)
+returns c = let m = c .before .before .before .before .before .before .before .args .m in rw (lt-ltb (m .held) (m .whole) (omega arith)) (c .before .before .stop .ensures .wrote)
 
 done-requires : tie.Need-done-requires
 done-requires c κs = search needs

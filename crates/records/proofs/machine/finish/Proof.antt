@@ -3,7 +3,8 @@ use native.Mathlib.Omega.{arith}
 use lib.ListN.{length}
 use borrow.Author.Tests.{lt-ltb, le-ltb}
 use Rattle.records.specs.Machine.{finishCall, finishOf, endText}
-use Rattle.records.proofs.Performing.{closing-nothing, closing-is, closing-room}
+use Rattle.records.proofs.answering.Handing.{closing-nothing, closing-is, closing-room}
+use Rattle.records.specs.Fixed.{textRoom}
 use borrow.Author.Needs.{needs}
 use Rattle.records.proofs.machine.finish.Statement.{statement}
 use Rattle.records.proofs.machine.finish.Tie as tie
@@ -12,7 +13,7 @@ returns : tie.Need-returns
 unfolding finishCall
 returns c =
     let a = c .before .before .args in (
-      rw (lt-ltb (length (a .out .now)) 4096 (omega arith)) (closing-nothing (a .out .now)),
+      rw (lt-ltb (length (a .out .now)) textRoom (omega arith)) (closing-nothing (a .out .now)),
       omega arith,
     )
 
@@ -23,7 +24,7 @@ returns-2 : tie.Need-returns-2
 unfolding finishCall finishOf
 returns-2 c =
     let a = c .before .before .before .before .args in (
-      rw (le-ltb (length (a .out .now)) 4096 (omega arith), ← c .before .ended .ensures, c .if2 .taken) (closing-nothing (a .out .now)),
+      rw (le-ltb (length (a .out .now)) textRoom (omega arith), ← c .before .ended .ensures, c .if2 .taken) (closing-nothing (a .out .now)),
       omega arith,
     )
 
@@ -38,7 +39,7 @@ unfolding finishCall finishOf
 returns-3 c =
     let a = c .before .before .before .before .before .before .before .before .args in
     let said = closing-is (endText (a .m)) (c .before .before .end .ensures) in (
-      rw (le-ltb (length (a .out .now)) 4096 (omega arith), ← c .before .before .before .before .before .ended .ensures, c .before .before .before .before .if2 .left) said,
+      rw (le-ltb (length (a .out .now)) textRoom (omega arith), ← c .before .before .before .before .before .ended .ensures, c .before .before .before .before .if2 .left) said,
       closing-room _ _ (a .out .now) (endText (a .m)) said (c .before .before .end .kept .1 .0),
     )
 

@@ -1,10 +1,25 @@
 -- By what there is to do next.
+use mathlib.Core.Path.{refl}
 use Rattle.records.specs.Record.{Kind}
-use Rattle.records.specs.Machine.{buffers, stops, fedBy}
-use Rattle.records.proofs.Performing.{stop-is, handed-nothing, handed-done}
+use Rattle.records.specs.Machine.{Buffers, buffers, did, stoppedBy, fedBy}
+use Rattle.records.proofs.answering.Leaving.{done-is}
+use Rattle.records.proofs.answering.Handing.{handed-nothing, handed-done}
 use borrow.Author.Needs.{needs}
 use Rattle.records.proofs.machine.follow.Statement.{statement}
 use Rattle.records.proofs.machine.follow.Tie as tie
+
+-- where the call starts, and where a record is done
+abbrev start : tie.After-m → tie.Start
+start c = c .before .before .before .before .before .before .before .before
+
+abbrev completed : tie.After-slice-known15 → tie.After-complete
+completed c = c .before .before .before .before .before .before .before .before .before .before .before .before .before .before
+
+-- what it is lent
+abbrev held : tie.Start → Buffers
+held s =
+    let a = s .args in
+    buffers (a .planes .now) (a .pixels .now) (a .log .now) (a .scratch .now) (a .values .now) (a .mattes .now)
 
 enum-told : tie.Need-enum-told
 enum-told c = search needs
@@ -33,14 +48,14 @@ complete-requires c κs = search needs
 returns : tie.Need-returns
 unfolding fedBy
 returns c =
-    let a = c .before .before .before .before .before .before .before .before .before .before .args in
-    rw (c .enum-told .given .1) (handed-nothing (a .t .machine) (buffers (a .planes .now) (a .pixels .now) (a .log .now) (a .scratch .now) (a .values .now) (a .mattes .now)) (a .out .now))
+    let s = start (c .before .before) in
+    rw (c .enum-told .given .1) (handed-nothing (s .args .t .machine) (held s) (s .args .out .now))
 
 returns-2 : tie.Need-returns-2
 unfolding fedBy
 returns-2 c =
-    let a = c .before .before .before .before .before .before .before .before .before .before .before .args in
-    rw (c .before .enum-told2 .given .1, c .moved .ensures) (handed-nothing _ (buffers (a .planes .now) (a .pixels .now) (a .log .now) (a .scratch .now) (a .values .now) (a .mattes .now)) (a .out .now))
+    let s = start (c .before .before .before) in
+    rw (c .before .enum-told2 .given .1, c .moved .ensures) (handed-nothing _ (held s) (s .args .out .now))
 
 same-length : tie.Need-same-length
 same-length c = search needs
@@ -48,13 +63,12 @@ same-length c = search needs
 returns-3 : tie.Need-returns-3
 unfolding fedBy
 returns-3 c =
-    let a = c .before .before .before .before .before .before .before .before .before .before .before .before .before .before .before .args in
-    let m = a .t .machine in
-    let stopped = c .before .before .before .stop in
-    let b = buffers (a .planes .now) (a .pixels .now) (a .log .now) (a .scratch .now) (a .values .now) (a .mattes .now) in
-    rw (c .before .before .before .before .before .enum-told3 .given .1)
-    (handed-done m (c .moved2 .result) (stopped .result) b (a .out .now) _ (stops (m .count) Kind b)
-    (stop-is (m .count) Kind (stopped .result) b (stopped .ensures))
+    let h = c .before .before .before in
+    let s = start (h .before .before .before .before) in
+    let m = s .args .t .machine in
+    rw (h .before .before .enum-told3 .given .1)
+    (handed-done m (c .moved2 .result) (h .stop .result) (held s) (s .args .out .now) _ (did (stoppedBy (m .count) Kind) (held s))
+    (done-is (stoppedBy (m .count) Kind) (h .stop .result) {b = held s} (h .stop .ensures) refl)
     (c .moved2 .ensures))
 
 same-length-2 : tie.Need-same-length-2
@@ -80,7 +94,7 @@ same-length-8 c = search needs
 
 returns-4 : tie.Need-returns-4
 unfolding fedBy
-returns-4 c = rw (c .before .before .before .before .before .before .before .before .before .before .before .before .before .before .before .before .before .before .before .before .before .before .enum-told4 .given .1) (c .before .before .before .before .before .before .before .before .before .before .before .before .before .before .complete .ensures)
+returns-4 c = let h = completed c in rw (h .before .before .before .before .before .before .before .before .enum-told4 .given .1) (h .complete .ensures)
 
 pub follow-spec : {M : Type 1} → statement M
 follow-spec =

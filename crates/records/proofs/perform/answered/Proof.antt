@@ -2,11 +2,15 @@
 use mathlib.Core.Path.{refl}
 use native.Mathlib.Omega.{arith}
 use Rattle.plate.specs.Refusal.{outcomeNumber}
-use Rattle.records.proofs.Writing.{wrote-nothing}
-use Rattle.records.proofs.Performing.{no-answer, an-answer}
+use Rattle.records.proofs.answering.Leaving.{says-nothing}
+use Rattle.records.proofs.answering.Answers.{no-answer, an-answer}
 use borrow.Author.Needs.{needs}
 use Rattle.records.proofs.perform.answered.Statement.{statement}
 use Rattle.records.proofs.perform.answered.Tie as tie
+
+-- where the call starts, seen from where the number is known
+abbrev start : tie.After-outcome-number → tie.Start
+start c = c .before .before
 
 outcome-number-requires : tie.Need-outcome-number-requires
 outcome-number-requires c κs = search needs
@@ -15,7 +19,7 @@ returns : tie.Need-returns
 returns c =
     let start = c .before .before .before .before in
     let told = c .before .before .outcome-number .ensures in
-    (refl, rw (no-answer (start .args .k) (outcomeNumber (start .args .a .outcome)) (omega arith)) (wrote-nothing (start .args .out .now) 0 (omega arith)))
+    rw (no-answer (start .args .k) (outcomeNumber (start .args .a .outcome)) (omega arith)) (says-nothing _ (start .args .out .now))
 
 slice-aggregate-line : tie.Need-slice-aggregate-line
 slice-aggregate-line c = search needs
@@ -28,9 +32,15 @@ same-length c = search needs
 
 returns-2 : tie.Need-returns-2
 returns-2 c =
-    let start = c .before .before .before .before .before .before .before .before .before in
-    let told = c .before .before .before .before .before .before .before .outcome-number .ensures in
-    (refl, rw (an-answer (start .args .k) (outcomeNumber (start .args .a .outcome)) (omega arith), ← told) (c .before .before .line .ensures))
+    let told = c .before .before .before .before .before .before .before in
+    let s = start told in
+    let number = told .outcome-number .ensures in
+    record {
+      stage-is = refl;
+      wrote =
+          rw (an-answer (s .args .k) (outcomeNumber (s .args .a .outcome)) (omega arith), ← number)
+          (c .before .before .line .ensures);
+    }
 
 pub answered-spec : {M : Type 1} → statement M
 answered-spec =

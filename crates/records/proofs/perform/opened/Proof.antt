@@ -1,11 +1,14 @@
 -- By the number of the outcome: 0, 1 or another.
 use native.Mathlib.Omega.{arith}
-use borrow.Author.Tests.{eq-eqb, ne-eqb}
-use Rattle.plate.specs.Refusal.{outcomeNumber}
-use Rattle.records.proofs.Performing.{opened-is, not-opened-is}
+use Rattle.records.proofs.answering.Answers.{opened-yes, opened-sizes, opened-cells}
+use Rattle.records.proofs.answering.Leaving.{says-nothing}
 use borrow.Author.Needs.{needs}
 use Rattle.records.proofs.perform.opened.Statement.{statement}
 use Rattle.records.proofs.perform.opened.Tie as tie
+
+-- where the call starts, seen from where the number is known
+abbrev start : tie.After-outcome-number → tie.Start
+start c = c .before .before
 
 outcome-number-requires : tie.Need-outcome-number-requires
 outcome-number-requires c κs = search needs
@@ -13,7 +16,8 @@ outcome-number-requires c κs = search needs
 returns : tie.Need-returns
 returns c =
     let a = c .before .before .before .before .args in
-    λ b. opened-is (a .k) (outcomeNumber (a .a .outcome)) (a .a .state) b (a .out .now) (omega (arith, c .before .before .outcome-number .ensures))
+    let told = c .before .before .outcome-number .ensures in
+    rw (opened-yes (a .k) (a .a) (omega arith)) (says-nothing _ (a .out .now))
 
 stop-requires : tie.Need-stop-requires
 stop-requires c κs = search needs
@@ -23,12 +27,10 @@ same-length c = search needs
 
 returns-2 : tie.Need-returns-2
 returns-2 c =
-    let a = c .before .before .before .before .before .before .before .before .args in
-    let number = outcomeNumber (a .a .outcome) in
-    let told = c .before .before .before .before .before .before .outcome-number .ensures in
-    λ b.
-    not-opened-is (a .k) number (a .a .state) b (c .before .before .stop .result) (omega arith)
-    (rw (eq-eqb number 1 (omega arith)) (c .before .before .stop .ensures))
+    let told = c .before .before .before .before .before .before in
+    let a = start told .args in
+    let number = told .outcome-number .ensures in
+    rw (opened-sizes (a .k) (a .a) (omega arith)) (c .before .before .stop .ensures)
 
 stop-requires-2 : tie.Need-stop-requires-2
 stop-requires-2 c κs = search needs
@@ -38,12 +40,10 @@ same-length-2 c = search needs
 
 returns-3 : tie.Need-returns-3
 returns-3 c =
-    let a = c .before .before .before .before .before .before .before .before .args in
-    let number = outcomeNumber (a .a .outcome) in
-    let told = c .before .before .before .before .before .before .outcome-number .ensures in
-    λ b.
-    not-opened-is (a .k) number (a .a .state) b (c .before .before .stop2 .result) (omega arith)
-    (rw (ne-eqb number 1 (omega arith)) (c .before .before .stop2 .ensures))
+    let told = c .before .before .before .before .before .before in
+    let a = start told .args in
+    let number = told .outcome-number .ensures in
+    rw (opened-cells (a .k) (a .a) (omega arith) (omega arith)) (c .before .before .stop2 .ensures)
 
 pub opened-spec : {M : Type 1} → statement M
 opened-spec =

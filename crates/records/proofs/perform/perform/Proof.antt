@@ -1,13 +1,27 @@
 -- By where the run stands.
 use mathlib.Core.Path.{refl}
-use mathlib.Core.List.{[]}
-use native.Mathlib.Omega.{arith}
-use Rattle.records.specs.Machine.{buffers, did, recordOn, Ended}
-use Rattle.records.proofs.Writing.{wrote-nothing}
-use Rattle.records.proofs.Performing.{done-is}
+use Rattle.records.specs.Machine.{Buffers, buffers, recordOn, Ended}
+use Rattle.records.proofs.answering.Leaving.{done-is, says-nothing}
+use Rattle.plate.specs.Lent.{views}
 use borrow.Author.Needs.{needs}
 use Rattle.records.proofs.perform.perform.Statement.{statement}
 use Rattle.records.proofs.perform.perform.Tie as tie
+
+-- where the call starts, and what the calls that it makes are made on
+abbrev start : tie.After-slice-known7 → tie.Start
+start c = c .before .before .before .before .before .before .before
+
+abbrev closed : tie.After-slice-known11 → tie.After-on-closed
+closed c = c .before .before .before .before .before .before .before .before
+
+abbrev opened : tie.After-slice-known18 → tie.After-on-open
+opened c = c .before .before .before .before .before .before .before .before .before .before .before .before .before .before
+
+-- what it is lent
+abbrev held : tie.Start → Buffers
+held s =
+    let a = s .args in
+    buffers (a .planes .now) (a .pixels .now) (a .log .now) (a .scratch .now) (a .values .now) (a .mattes .now)
 
 enum-told : tie.Need-enum-told
 enum-told c = search needs
@@ -38,8 +52,10 @@ same-length-4 c = search needs
 
 returns : tie.Need-returns
 returns c =
-    let a = c .before .before .before .before .before .before .before .before .before .before .before .before .before .before .before .before .before .before .before .before .before .before .args in
-    rw (c .before .before .before .before .before .before .before .before .before .before .before .before .before .enum-told .given .1) (c .before .before .before .before .before .before .before .before .on-closed .ensures (a .scratch .now) (a .values .now) (a .mattes .now))
+    let h = closed c in
+    let a = start (h .before .before .before .before .before .before .before) .args in
+    rw (h .before .before .before .before .before .enum-told .given .1)
+    (h .on-closed .ensures (views (a .scratch .now) (a .values .now) (a .mattes .now)))
 
 same-length-5 : tie.Need-same-length-5
 same-length-5 c = search needs
@@ -63,15 +79,15 @@ same-length-11 : tie.Need-same-length-11
 same-length-11 c = search needs
 
 returns-2 : tie.Need-returns-2
-returns-2 c = rw (c .before .before .before .before .before .before .before .before .before .before .before .before .before .before .before .before .before .before .before .before .before .before .before .stage .given .1) (c .before .before .before .before .before .before .before .before .before .before .before .before .before .before .on-open .ensures)
+returns-2 c =
+    let h = opened c in rw (h .before .before .before .before .before .before .before .before .before .stage .given .1) (h .on-open .ensures)
 
 returns-3 : tie.Need-returns-3
 unfolding recordOn
 returns-3 c =
-    let a = c .before .before .before .before .before .before .before .before .before .args in
-    let b = buffers (a .planes .now) (a .pixels .now) (a .log .now) (a .scratch .now) (a .values .now) (a .mattes .now) in
+    let s = start (c .before .before) in
     rw (c .enum-told2 .given .1)
-    (done-is (record { stage = Ended; written = 0 }) b (did Ended b []) refl refl (wrote-nothing (a .out .now) 0 (omega arith)))
+    (done-is _ (record { stage = Ended; written = 0 }) {b = held s} (says-nothing Ended (s .args .out .now)) refl)
 
 pub perform-spec : {M : Type 1} → statement M
 perform-spec =

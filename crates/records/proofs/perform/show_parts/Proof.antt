@@ -3,29 +3,41 @@ use mathlib.Core.Path.{refl}
 use native.Mathlib.Omega.{arith}
 use native.Mathlib.Nat.{mul-comm}
 use Rattle.plate.specs.Layout.{places}
-use Rattle.plate.specs.Refusal.{sizeOf, views}
-use Rattle.records.proofs.Lends.{few}
-use Rattle.records.proofs.Shows.{few-shown, text-fits}
+use Rattle.plate.specs.Lent.{views}
+use Rattle.records.proofs.lending.Rooms.{few}
+use Rattle.records.proofs.lending.ShowFits.{few-shown, text-fits}
 use borrow.Author.Needs.{needs}
 use Rattle.records.proofs.perform.show_parts.Statement.{statement}
 use Rattle.records.proofs.perform.show_parts.Tie as tie
+
+-- where the plate has shown, and from there where the call starts
+abbrev called : tie.After-shown → tie.After-show
+called c = c .before .before .before .before .before .before .before .before .before .before
+
+abbrev start : tie.After-show → tie.Start
+start c = c .before .before .before .before .before .before .before .before .before
 
 show-requires : tie.Need-show-requires
 show-requires c κs = search needs
 
 shown-requires : tie.Need-shown-requires
 shown-requires c κs =
-    let start = c .before .before .before .before .before .before .before .before .before .before .before .before .before .before .before .before .before .before in
-    let a = start .args in
-    let z = sizeOf (a .state) in
-    let call = c .before .before .before .before .before .before .before .before .before .show in (
-      start .pre .out-room,
+    let h = c .before .before .before .before .before .before .before .before .before in
+    let s = start h in
+    let a = s .args in
+    let z = a .state .size in
+    let call = h .show in (
+      s .pre .out-room,
       λ e.
           let small = few-shown (a .state) (a .planes .now) (views (a .scratch .now) (a .values .now) (a .mattes .now)) (call .result)
-          (call .ensures) (start .pre .planes-are) e in
+          (call .ensures) (s .pre .planes-are) e in
           let all = few z (places z) small in
-          let turned = mul-comm (a .state .height) (a .state .width) in
-          (text-fits z small, omega (arith, call .kept .1 .1 .1 .0, start .pre .values-are), omega (arith, call .kept .1 .1 .1 .1 .0, start .pre .mattes-are)),
+          let turned = mul-comm (z .height) (z .width) in
+          record {
+            out-room = omega (arith, text-fits z small, s .pre .out-room);
+            values-room = omega (arith, call .kept .1 .1 .1 .0, s .pre .values-are);
+            mattes-room = omega (arith, call .kept .1 .1 .1 .1 .0, s .pre .mattes-are);
+          },
     )
 
 same-length : tie.Need-same-length
@@ -42,10 +54,10 @@ same-length-4 c = search needs
 
 returns : tie.Need-returns
 returns c =
-    let call = c .before .before .before .before .before .before .before .before .before .before .before .before .show in
-    let answer = c .before .before .shown in
+    let answer = c .before .before in
+    let call = called answer .show in
     rw (← call .ensures)
-    (record { stage-is = answer .ensures .0; seen-is = refl; wrote = answer .ensures .1 })
+    (record { seen-is = refl; told = answer .shown .ensures })
 
 pub show-parts-spec : {M : Type 1} → statement M
 show-parts-spec =

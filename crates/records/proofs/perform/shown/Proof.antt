@@ -1,29 +1,39 @@
 -- By the number of the outcome: the pictures for 0, and else what any call is answered by.
 use mathlib.Core.Path.{refl}
 use native.Mathlib.Omega.{arith}
-use Rattle.records.proofs.Performing.{shown-yes, shown-no}
+use Rattle.records.proofs.answering.Answers.{shown-yes, shown-no}
 use borrow.Author.Needs.{needs}
 use Rattle.records.proofs.perform.shown.Statement.{statement}
 use Rattle.records.proofs.perform.shown.Tie as tie
+
+-- where the call starts, seen from where the number is known
+abbrev start : tie.After-outcome-number → tie.Start
+start c = c .before .before .before .before
 
 outcome-number-requires : tie.Need-outcome-number-requires
 outcome-number-requires c κs = search needs
 
 show-requires : tie.Need-show-requires
 show-requires c κs =
-    let start = c .before .before .before .before .before .before .before in
-    let told = c .before .before .before .outcome-number .ensures in
-    let room = start .pre .1 (omega arith) in
-    (omega (arith, start .pre .0), room .1, room .2)
+    let told = c .before .before .before in
+    let s = start told in
+    let number = told .outcome-number .ensures in
+    s .pre .1 (omega arith)
 
 same-length : tie.Need-same-length
 same-length c = search needs
 
 returns : tie.Need-returns
 returns c =
-    let a = c .before .before .before .before .before .before .before .before .before .before .args in
-    let told = c .before .before .before .before .before .before .outcome-number .ensures in
-    (refl, rw (shown-yes (a .k) (a .width) (a .height) (a .a .outcome) (a .values .now) (a .mattes .now) (omega arith)) (c .before .before .show .ensures))
+    let told = c .before .before .before .before .before .before in
+    let a = start told .args in
+    let number = told .outcome-number .ensures in
+    record {
+      stage-is = refl;
+      wrote =
+          rw (shown-yes (a .k) (a .size .width) (a .size .height) (a .a .outcome) (a .values .now) (a .mattes .now) (omega arith))
+          (c .before .before .show .ensures);
+    }
 
 answered-requires : tie.Need-answered-requires
 answered-requires c κs = search needs
@@ -33,9 +43,11 @@ same-length-2 c = search needs
 
 returns-2 : tie.Need-returns-2
 returns-2 c =
-    let a = c .before .before .before .before .before .before .before .before .before .args in
-    let told = c .before .before .before .before .before .outcome-number .ensures in
-    rw (shown-no (a .k) (a .width) (a .height) (a .a .outcome) (a .values .now) (a .mattes .now) (omega arith)) (c .before .before .answered .ensures)
+    let told = c .before .before .before .before .before in
+    let a = start told .args in
+    let number = told .outcome-number .ensures in
+    rw (shown-no (a .k) (a .size .width) (a .size .height) (a .a .outcome) (a .values .now) (a .mattes .now) (omega arith))
+    (c .before .before .answered .ensures)
 
 pub shown-spec : {M : Type 1} → statement M
 shown-spec =

@@ -17,7 +17,11 @@ same-length : tie.Need-same-length
 same-length c = search needs
 
 returns : tie.Need-returns
-returns c = (refl, rw (← c .before .before .before .stop-number .ensures) (c .before .before .line .ensures))
+returns c =
+    record {
+      stage-is = refl;
+      wrote = rw (← c .before .before .before .stop-number .ensures) (c .before .before .line .ensures);
+    }
 
 pub stop-spec : {M : Type 1} → statement M
 stop-spec =

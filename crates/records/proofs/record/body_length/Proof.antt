@@ -1,16 +1,16 @@
 -- The match's numbers are places in the list of lengths, and any other number is past it or 0.
-use mathlib.Core.Path.{sym}
+use mathlib.Core.Path.{_≡_, sym}
 use native.Mathlib.Omega.{arith}
-use Rattle.records.proofs.Bodies.{unknown-kind}
+use Rattle.records.proofs.reading.Kinds.{unknown-kind}
 use borrow.Author.Needs.{needs}
 use Rattle.records.proofs.record.body_length.Statement.{statement}
 use Rattle.records.proofs.record.body_length.Tie as tie
 
 returns : tie.Need-returns
-returns c = search needs
+returns c = let told : c .before .args .kind ≡ 1 = omega arith in rw told
 
 returns-2 : tie.Need-returns-2
-returns-2 c = search needs
+returns-2 c = let told : c .before .args .kind ≡ 2 = omega arith in rw told
 
 returns-3 : tie.Need-returns-3
 returns-3 c = search needs

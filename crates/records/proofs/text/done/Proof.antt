@@ -2,11 +2,21 @@
 use mathlib.Core.Path.{_∙_}
 use native.Mathlib.Omega.{arith}
 use Rattle.records.specs.Text.{doneLine}
-use Rattle.records.proofs.Writing.{then-wrote}
-use Rattle.records.proofs.Decimals.{decimal-long}
+use Rattle.records.proofs.writing.Slices.{then-wrote}
+use Rattle.records.proofs.writing.Decimals.{decimal-long}
 use borrow.Author.Needs.{needs}
 use Rattle.records.proofs.text.done.Statement.{statement}
 use Rattle.records.proofs.text.done.Tie as tie
+
+-- the start of the call, seen from its first step, and each step from the next one
+abbrev start : tie.After-word → tie.Start
+start c = c .before .before .before .before
+
+abbrev first : tie.After-spaced → tie.After-word
+first c = c .before .before .before .before
+
+abbrev second : tie.After-byte → tie.After-spaced
+second c = c .before .before .before .before
 
 slice-aggregate-word : tie.Need-slice-aggregate-word
 slice-aggregate-word c = search needs
@@ -16,38 +26,45 @@ word-requires c κs = search needs
 
 spaced-requires : tie.Need-spaced-requires
 spaced-requires c κs =
-    let start = c .before .before .before .before .before .before .before in
-    let one = c .before .before .before .word in
+    let one = c .before .before .before in
+    let s = start one in
     omega (
       arith,
-      one .kept .0,
-      one .ensures .next-is,
-      start .pre,
-      decimal-long (start .args .k) (omega arith),
+      one .word .kept .0,
+      one .word .ensures .next-is,
+      s .pre,
+      decimal-long (s .args .k) (omega arith),
     )
 
 byte-requires : tie.Need-byte-requires
 byte-requires c κs =
-    let start = c .before .before .before .before .before .before .before .before .before .before .before in
-    let one = c .before .before .before .before .before .before .before .word in
-    let two = c .before .before .before .spaced in
+    let two = c .before .before .before in
+    let one = first two in
+    let s = start one in
     omega (
       arith,
-      one .kept .0,
-      two .kept .0,
-      one .ensures .next-is,
-      two .ensures .next-is,
-      start .pre,
-      decimal-long (start .args .k) (omega arith),
+      one .word .kept .0,
+      two .spaced .kept .0,
+      one .word .ensures .next-is,
+      two .spaced .ensures .next-is,
+      s .pre,
+      decimal-long (s .args .k) (omega arith),
     )
 
 same-length : tie.Need-same-length
-same-length c = c .before .before .byte .kept .0 ∙ c .before .before .before .before .before .before .spaced .kept .0 ∙ c .before .before .before .before .before .before .before .before .before .before .word .kept .0
+same-length c =
+    let three = c .before .before in
+    let two = second three in
+    let one = first two in
+    three .byte .kept .0 ∙ two .spaced .kept .0 ∙ one .word .kept .0
 
 returns : tie.Need-returns
 unfolding doneLine
 returns c =
-    then-wrote (then-wrote (c .before .before .before .before .before .before .before .before .before .before .word .ensures) (c .before .before .before .before .before .before .spaced .ensures)) (c .before .before .byte .ensures)
+    let three = c .before .before in
+    let two = second three in
+    let one = first two in
+    then-wrote (then-wrote (one .word .ensures) (two .spaced .ensures)) (three .byte .ensures)
 
 pub done-spec : {M : Type 1} → statement M
 done-spec =

@@ -2,11 +2,24 @@
 use mathlib.Core.Path.{_∙_}
 use native.Mathlib.Omega.{arith}
 use Rattle.records.specs.Text.{headLine}
-use Rattle.records.proofs.Writing.{then-wrote}
-use Rattle.records.proofs.Decimals.{decimal-long}
+use Rattle.records.proofs.writing.Slices.{then-wrote}
+use Rattle.records.proofs.writing.Decimals.{decimal-long}
 use borrow.Author.Needs.{needs}
 use Rattle.records.proofs.text.head.Statement.{statement}
 use Rattle.records.proofs.text.head.Tie as tie
+
+-- the start of the call, seen from its first step, and each step from the next one
+abbrev start : tie.After-word → tie.Start
+start c = c .before .before .before .before
+
+abbrev first : tie.After-spaced → tie.After-word
+first c = c .before .before .before .before
+
+abbrev second : tie.After-spaced2 → tie.After-spaced
+second c = c .before .before .before .before
+
+abbrev third : tie.After-byte → tie.After-spaced2
+third c = c .before .before .before .before
 
 slice-aggregate-word : tie.Need-slice-aggregate-word
 slice-aggregate-word c = search needs
@@ -16,74 +29,79 @@ word-requires c κs = search needs
 
 spaced-requires : tie.Need-spaced-requires
 spaced-requires c κs =
-    let start = c .before .before .before .before .before .before .before in
-    let one = c .before .before .before .word in
+    let one = c .before .before .before in
+    let s = start one in
     omega (
       arith,
-      one .kept .0,
-      one .ensures .next-is,
-      start .pre,
-      decimal-long (start .args .w) (omega arith),
+      one .word .kept .0,
+      one .word .ensures .next-is,
+      s .pre,
+      decimal-long (s .args .w) (omega arith),
     )
 
 spaced-requires-2 : tie.Need-spaced-requires-2
 spaced-requires-2 c κs =
-    let start = c .before .before .before .before .before .before .before .before .before .before .before in
-    let one = c .before .before .before .before .before .before .before .word in
-    let two = c .before .before .before .spaced in
+    let two = c .before .before .before in
+    let one = first two in
+    let s = start one in
     omega (
       arith,
-      one .kept .0,
-      two .kept .0,
-      one .ensures .next-is,
-      two .ensures .next-is,
-      start .pre,
-      decimal-long (start .args .w) (omega arith),
-      decimal-long (start .args .h) (omega arith),
+      one .word .kept .0,
+      two .spaced .kept .0,
+      one .word .ensures .next-is,
+      two .spaced .ensures .next-is,
+      s .pre,
+      decimal-long (s .args .w) (omega arith),
+      decimal-long (s .args .h) (omega arith),
     )
 
 byte-requires : tie.Need-byte-requires
 byte-requires c κs =
-    let start = c .before .before .before .before .before .before .before .before .before .before .before .before .before .before .before in
-    let one = c .before .before .before .before .before .before .before .before .before .before .before .word in
-    let two = c .before .before .before .before .before .before .before .spaced in
-    let three = c .before .before .before .spaced2 in
+    let three = c .before .before .before in
+    let two = second three in
+    let one = first two in
+    let s = start one in
     omega (
       arith,
-      one .kept .0,
-      two .kept .0,
-      three .kept .0,
-      one .ensures .next-is,
-      two .ensures .next-is,
-      three .ensures .next-is,
-      start .pre,
-      decimal-long (start .args .w) (omega arith),
-      decimal-long (start .args .h) (omega arith),
+      one .word .kept .0,
+      two .spaced .kept .0,
+      three .spaced2 .kept .0,
+      one .word .ensures .next-is,
+      two .spaced .ensures .next-is,
+      three .spaced2 .ensures .next-is,
+      s .pre,
+      decimal-long (s .args .w) (omega arith),
+      decimal-long (s .args .h) (omega arith),
     )
 
 same-length : tie.Need-same-length
 same-length c =
-    c .before .before .byte .kept .0 ∙ c .before .before .before .before .before .before .spaced2 .kept .0 ∙ c .before .before .before .before .before .before .before .before .before .before .spaced .kept .0 ∙ c .before .before .before .before .before .before .before .before .before .before .before .before .before .before .word .kept .0
+    let four = c .before .before in
+    let three = third four in
+    let two = second three in
+    let one = first two in
+    four .byte .kept .0 ∙ three .spaced2 .kept .0 ∙ two .spaced .kept .0 ∙ one .word .kept .0
 
 returns : tie.Need-returns
 unfolding headLine
 returns c =
-    let start = c .before .before .before .before .before .before .before .before .before .before .before .before .before .before .before .before .before .before in
-    let one = c .before .before .before .before .before .before .before .before .before .before .before .before .before .before .word in
-    let two = c .before .before .before .before .before .before .before .before .before .before .spaced in
-    let three = c .before .before .before .before .before .before .spaced2 in
-    let four = c .before .before .byte in (
-      then-wrote (then-wrote (then-wrote (one .ensures) (two .ensures)) (three .ensures)) (four .ensures),
-      omega (
+    let four = c .before .before in
+    let three = third four in
+    let two = second three in
+    let one = first two in
+    let s = start one in
+    record {
+      wrote = then-wrote (then-wrote (then-wrote (one .word .ensures) (two .spaced .ensures)) (three .spaced2 .ensures)) (four .byte .ensures);
+      short = omega (
         arith,
-        one .ensures .next-is,
-        two .ensures .next-is,
-        three .ensures .next-is,
-        four .ensures .next-is,
-        decimal-long (start .args .w) (omega arith),
-        decimal-long (start .args .h) (omega arith),
-      ),
-    )
+        one .word .ensures .next-is,
+        two .spaced .ensures .next-is,
+        three .spaced2 .ensures .next-is,
+        four .byte .ensures .next-is,
+        decimal-long (s .args .w) (omega arith),
+        decimal-long (s .args .h) (omega arith),
+      );
+    }
 
 pub head-spec : {M : Type 1} → statement M
 head-spec =

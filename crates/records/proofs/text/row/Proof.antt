@@ -1,19 +1,20 @@
--- Each turn writes one cell more, with a space before it if it is not the first, in at most 10 bytes.
+-- Each turn writes one cell more, with a space before it if it is not the first, in at most `rowRoom 1` bytes.
 use mathlib.Core.Path.{_≡_, _∙_}
 use Prim.Native.Nat.{_+_, _*_, _-_, _≤_}
 use native.Mathlib.Omega.{arith}
 use borrow.Author.Needs.{needs}
 use lib.ListN.{length}
 use Rattle.records.specs.Text.{rowText}
-use Rattle.records.specs.Written.{Wrote}
-use Rattle.records.proofs.Writing.{wrote-nothing, then-wrote}
-use Rattle.records.proofs.Pictures.{row-more}
+use Rattle.records.specs.code.Written.{Wrote}
+use Rattle.records.specs.code.Room.{rowRoom}
+use Rattle.records.proofs.writing.Slices.{wrote-nothing, then-wrote}
+use Rattle.records.proofs.writing.Rows.{row-more}
 use Rattle.records.proofs.text.row.Statement.{statement}
 use Rattle.records.proofs.text.row.Tie as tie
 
 abbrev Inv-loop : tie.InvT-loop
 Inv-loop out₀ at values mattes from w next₀ j₀ out next j =
-    (j ≤ w) × (length out ≡ length out₀) × (next ≤ at + 10 * j) × Wrote out₀ at (rowText values mattes from j) out next
+    (j ≤ w) × (length out ≡ length out₀) × (next ≤ at + rowRoom j) × Wrote out₀ at (rowText values mattes from j) out next
 
 abbrev μ-loop : tie.MeasureT-loop
 μ-loop out₀ at values mattes from w next₀ j₀ out next j = w - j
@@ -34,7 +35,11 @@ cell-requires c κs =
     let start = at .before .before .before .before in
     let one = c .before .before .before .gap in
     let room = one .kept .0 in
-    (omega (arith, one .ensures .1, start .pre .0), omega (arith, start .pre .1), omega (arith, start .pre .2))
+    record {
+      out-room = omega (arith, one .ensures .short, start .pre .out-room);
+      values-room = omega (arith, start .pre .values-room);
+      mattes-room = omega (arith, start .pre .mattes-room);
+    }
 
 add-j : tie.Need-add-j Inv-loop μ-loop
 add-j c = search needs
@@ -50,9 +55,9 @@ loop-again c =
     let two = c .before .before .cell in (
       search needs,
       two .kept .0 ∙ one .kept .0 ∙ at .loop .inv .1,
-      omega (arith, one .ensures .1, two .ensures .1, at .loop .inv .2),
+      omega (arith, one .ensures .short, two .ensures .short, at .loop .inv .2),
       rw (row-more (start .args .values .now) (start .args .mattes .now) (start .args .from) (at .loop .j))
-          (then-wrote (at .loop .inv .3) (then-wrote (one .ensures .0) (two .ensures .0))),
+          (then-wrote (at .loop .inv .3) (then-wrote (one .ensures .wrote) (two .ensures .wrote))),
     )
 
 same-length : tie.Need-same-length Inv-loop μ-loop
@@ -63,7 +68,7 @@ returns c =
     let at = c .before in
     let start = at .before .before .before .before in
     let all : at .loop .j ≡ start .args .w = omega arith in
-    (rw all at (at .loop .inv .3), rw all at (at .loop .inv .2))
+    record { wrote = rw all at (at .loop .inv .3); short = rw all at (at .loop .inv .2) }
 
 pub row-spec : {M : Type 1} → statement M
 row-spec =

@@ -1,14 +1,15 @@
--- Each turn writes one row more and the end of its line, in at most 10 bytes for each cell and one.
+-- Each turn writes one row more and the end of its line, in at most `rowsRoom w 1` bytes.
 use mathlib.Core.Path.{_≡_, _∙_}
 use Prim.Native.Nat.{_+_, _*_, _-_, _≤_}
 use native.Mathlib.Omega.{arith}
 use borrow.Author.Needs.{needs}
 use lib.ListN.{length}
-use Rattle.kernels.proofs.Numbers.{product-le}
+use Rattle.kernels.proofs.numbers.Products.{product-le}
 use Rattle.records.specs.Text.{rowsText}
-use Rattle.records.specs.Written.{Wrote}
-use Rattle.records.proofs.Writing.{wrote-nothing, then-wrote}
-use Rattle.records.proofs.Pictures.{rows-more}
+use Rattle.records.specs.code.Written.{Wrote}
+use Rattle.records.specs.code.Room.{rowRoom, rowsRoom}
+use Rattle.records.proofs.writing.Slices.{wrote-nothing, then-wrote}
+use Rattle.records.proofs.writing.Rows.{rows-more}
 use Rattle.records.proofs.text.rows.Statement.{statement}
 use Rattle.records.proofs.text.rows.Tie as tie
 
@@ -17,7 +18,7 @@ Inv-loop out₀ at values mattes w h next₀ from₀ y₀ out next from y =
     (y ≤ h)
     × (from ≡ y * w)
     × (length out ≡ length out₀)
-    × (next ≤ at + (10 * w + 1) * y)
+    × (next ≤ at + rowsRoom w y)
     × Wrote out₀ at (rowsText values mattes w y) out next
 
 abbrev μ-loop : tie.MeasureT-loop
@@ -32,23 +33,27 @@ row-requires c κs =
     let at = c .before .before in
     let start = at .before .before .before .before in
     let before = product-le (at .loop .y + 1) (start .args .w) (start .args .h) (start .args .w) (omega arith) (omega arith) in
-    let room = product-le (10 * start .args .w + 1) (at .loop .y + 1) (10 * start .args .w + 1) (start .args .h) (omega arith) (omega arith) in
-    (omega (arith, start .pre .0), omega (arith, start .pre .1), omega (arith, start .pre .2))
+    let room = product-le (rowRoom (start .args .w) + 1) (at .loop .y + 1) (rowRoom (start .args .w) + 1) (start .args .h) (omega arith) (omega arith) in
+    record {
+      out-room = omega (arith, start .pre .out-room);
+      values-room = omega (arith, start .pre .values-room);
+      mattes-room = omega (arith, start .pre .mattes-room);
+    }
 
 byte-requires : tie.Need-byte-requires Inv-loop μ-loop
 byte-requires c κs =
     let at = c .before .before .before .before .before .before in
     let start = at .before .before .before .before in
     let one = c .before .before .before .row in
-    let room = product-le (10 * start .args .w + 1) (at .loop .y + 1) (10 * start .args .w + 1) (start .args .h) (omega arith) (omega arith) in
-    omega (arith, one .kept .0, one .ensures .1, at .loop .inv .3, start .pre .0)
+    let room = product-le (rowRoom (start .args .w) + 1) (at .loop .y + 1) (rowRoom (start .args .w) + 1) (start .args .h) (omega arith) (omega arith) in
+    omega (arith, one .kept .0, one .ensures .short, at .loop .inv .3, start .pre .out-room)
 
 add-from : tie.Need-add-from Inv-loop μ-loop
 add-from c =
     let at = c .before .before .before .before .before .before .before .before .before in
     let start = at .before .before .before .before in
     let before = product-le (at .loop .y + 1) (start .args .w) (start .args .h) (start .args .w) (omega arith) (omega arith) in
-    omega (arith, start .pre .1, at .loop .inv .1)
+    omega (arith, start .pre .values-room, at .loop .inv .1)
 
 add-y : tie.Need-add-y Inv-loop μ-loop
 add-y c = search needs
@@ -65,12 +70,12 @@ loop-again c =
       search needs,
       omega (arith, at .loop .inv .1),
       two .kept .0 ∙ one .kept .0 ∙ at .loop .inv .2,
-      omega (arith, one .ensures .1, two .ensures .next-is, at .loop .inv .3),
+      omega (arith, one .ensures .short, two .ensures .next-is, at .loop .inv .3),
       rw (
         rows-more (start .args .values .now) (start .args .mattes .now) (start .args .w) (at .loop .y),
         ← at .loop .inv .1,
       )
-          (then-wrote (then-wrote (at .loop .inv .4) (one .ensures .0)) (two .ensures)),
+          (then-wrote (then-wrote (at .loop .inv .4) (one .ensures .wrote)) (two .ensures)),
     )
 
 same-length : tie.Need-same-length Inv-loop μ-loop

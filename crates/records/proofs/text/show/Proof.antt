@@ -1,6 +1,6 @@
 -- The head, and the rows after it.
 use Rattle.records.specs.Text.{showText}
-use Rattle.records.proofs.Writing.{then-wrote}
+use Rattle.records.proofs.writing.Slices.{then-wrote}
 use borrow.Author.Needs.{needs}
 use Rattle.records.proofs.text.show.Statement.{statement}
 use Rattle.records.proofs.text.show.Tie as tie
@@ -16,7 +16,7 @@ same-length c = search needs
 
 returns : tie.Need-returns
 unfolding showText
-returns c = then-wrote (c .before .before .before .before .before .before .head .ensures .0) (c .before .before .rows .ensures)
+returns c = then-wrote (c .before .before .before .before .before .before .head .ensures .wrote) (c .before .before .rows .ensures)
 
 pub show-spec : {M : Type 1} → statement M
 show-spec = tie.close (tie.spec head-requires rows-requires same-length returns)

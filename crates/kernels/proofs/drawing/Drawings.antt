@@ -1,0 +1,69 @@
+-- A drawing has the marks of its kernel, around the centre that the smallest plane gives it.
+use mathlib.Core.Path.{_≡_}
+use mathlib.Core.Bool.{true, false}
+use Prim.Native.Nat.{ℕ, _+_, _*_, _-_, _≤_}
+use native.Mathlib.Omega.{arith}
+use Rattle.kernels.specs.Fixed.{level, margin}
+use Rattle.kernels.specs.Mark.{lineMarks, flipped, outlineMarks, boxGrid, boxMarks, diamondMarks}
+use Rattle.kernels.proofs.marking.Kernel.{threeRuns}
+use Rattle.kernels.specs.code.Drawing.{Lines, drawnMarks, linePieces, outlineOf}
+
+-- a grid whose first mark lies at the margin
+pub grid-drawn : (p n r : ℕ) → boxGrid p n (2 * r + 1) margin margin ≡ boxMarks p n r (n * r + margin) (n * r + margin)
+unfolding boxMarks
+grid-drawn p n r = let e : n * r + margin - n * r ≡ margin = omega arith in rw e
+
+-- the rows of the pieces' ends: a columns of slope k, and back
+rise-row : (y a m : ℕ) → y + 0 * a - m ≡ y - m
+rise-row y a m = omega arith
+
+flat-row : (y b : ℕ) → y + 0 * b - 0 * b ≡ y
+flat-row y b = omega arith
+
+past-row : (y k a : ℕ) → k * a ≤ y → y - k * a + k * (a + 1) - 0 * (a + 1) ≡ y + k
+past-row y k a h = omega arith
+
+fall-row : (y a m : ℕ) → y + m - 0 * a ≡ y + m
+fall-row y a m = omega arith
+
+back-row : (y k a : ℕ) → y + k * a + 0 * (a + 1) - k * (a + 1) ≡ y - k
+back-row y k a = omega arith
+
+left-column : (r : ℕ) → r + margin - r ≡ margin
+left-column r = omega arith
+
+no-flat : (n : ℕ) → n + 0 ≡ n
+no-flat n = omega arith
+
+-- LINES WITHOUT A LEVEL PIECE, AND WITH ONE
+pub diamond-drawn : (r : ℕ) → drawnMarks (Lines (outlineOf r 0 1 r 0 false)) ≡ diamondMarks r (r + margin) (r + margin)
+unfolding drawnMarks linePieces outlineOf diamondMarks outlineMarks lineMarks flipped
+diamond-drawn r =
+    let y = r + margin - 0 in
+    let z = r + margin + 0 + 1 in
+    rw (
+      left-column r,
+      no-flat (margin + r),
+      rise-row y r (1 * r),
+      past-row y 1 r (omega arith),
+      fall-row z r (1 * r),
+      back-row z 1 r,
+    )
+
+pub flat-drawn : (r h k a b : ℕ) → h + k * a ≤ r
+    → drawnMarks (Lines (outlineOf r h k a b true)) ≡ outlineMarks r h (threeRuns k a b) (r + margin) (r + margin)
+unfolding drawnMarks linePieces outlineOf outlineMarks lineMarks flipped
+flat-drawn r h k a b p =
+    let y = r + margin - h in
+    let z = r + margin + h + 1 in
+    let plane : level + k - 0 ≡ level + k = omega arith in
+    rw (
+      left-column r,
+      plane,
+      rise-row y a (k * a),
+      flat-row (y - k * a) b,
+      past-row y k a (omega arith),
+      fall-row z a (k * a),
+      flat-row (z + k * a) b,
+      back-row z k a,
+    )

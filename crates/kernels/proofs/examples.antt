@@ -1,0 +1,2 @@
+-- The paper's starred examples.
+pub mod Starred

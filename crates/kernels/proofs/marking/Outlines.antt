@@ -1,0 +1,80 @@
+-- The kernel between two lines: the marks of both are finished to 1 in each column from the top line to the bottom line.
+use mathlib.Core.Path.{_≡_, refl, ap, _∙_}
+use mathlib.Core.List.{List, [], _∷_}
+use Prim.Native.Nat.{ℕ, _+_, _*_, _-_, _^_, _%_, _≤_}
+use native.Mathlib.Omega.{arith}
+use Rattle.kernels.specs.Choice.{within}
+use Rattle.kernels.specs.Sum.{dist, finish}
+use Rattle.kernels.specs.Mark.{Run, run, lineMarks, outlineMarks, flipped, minus, planesOf}
+use Rattle.kernels.proofs.numbers.Choices.{by-lt, within-yes, within-no}
+use Rattle.kernels.proofs.sums.FiniteSums.{cong-add}
+use Rattle.kernels.proofs.taps.TapForms.{columnTap}
+use Rattle.kernels.proofs.marking.LineFact.{stays, strip-in, strip-left, strip-right, columnsOf, rowAt, row-first, row-rest, Walk, line-fact}
+use Rattle.kernels.proofs.marking.MarkLists.{finish-append}
+
+-- THE TWO LINES
+pub flipped-columns : (runs : List Run) → columnsOf (flipped runs) ≡ columnsOf runs
+unfolding flipped columnsOf
+flipped-columns [] = refl
+flipped-columns (s ∷ rest) = ap (λ (n : ℕ). s .columns + n) (flipped-columns rest)
+
+-- a line and the same line turned upside down keep the same middle
+mirror : (runs : List Run) (t b i : ℕ) → Walk runs t → Walk (flipped runs) b → rowAt runs t i + rowAt (flipped runs) b i ≡ t + b
+unfolding flipped Walk
+mirror [] t b i v w = unfold rowAt in refl
+mirror (s ∷ rest) t b i v w =
+    by-lt i (s .columns)
+    (λ g.
+    let p = stays (v .0) t (s .columns) i (v .1) (omega arith) in
+    let q = stays (w .0) b (s .columns) i (w .1) (omega arith) in
+    rw (row-first s rest t i g, row-first (run (s .ups) (s .downs) (s .columns)) (flipped rest) b i g) (omega arith))
+    (λ g. rw (row-rest s rest t i g, row-rest (run (s .ups) (s .downs) (s .columns)) (flipped rest) b i g)
+    (mirror rest _ _ (i - s .columns) (v .2) (w .2) ∙ omega (arith, v .1, w .1)))
+
+-- a column whose top line is H above the middle and whose bottom line is a step past H below it
+column-between : (Y H t b y : ℕ) → t + H ≡ Y → t + b ≡ 2 * Y + 1
+    → (within t y 1 + within b y (minus 1)) % 2 ^ 64 ≡ within (dist y Y) H 1 % 2 ^ 64
+unfolding minus
+column-between Y H t b y p q =
+    by-lt y t
+    (λ g. rw (within-no t y 1, within-no b y (minus 1) (omega arith), within-no (dist y Y) H 1 (omega arith)))
+    (λ g. by-lt y b
+    (λ k. rw (within-yes t y 1, within-no b y (minus 1), within-yes (dist y Y) H 1 (omega arith)))
+    (λ k. rw (within-yes t y 1, within-yes b y (minus 1), within-no (dist y Y) H 1 (omega arith))))
+
+pub outline-fact : (r h : ℕ) (top : List Run) (H : ℕ → ℕ) (X Y : ℕ) → r ≤ X → h ≤ Y
+    → columnsOf top ≡ 2 * r + 1 → Walk top (Y - h) → Walk (flipped top) (Y + h + 1)
+    → ((i : ℕ) → i ≤ 2 * r → rowAt top (Y - h) i + H (dist i r) ≡ Y)
+    → (x y : ℕ) → finish (planesOf (outlineMarks r h top X Y)) x y % 2 ^ 64 ≡ columnTap H r (dist x X) (dist y Y) % 2 ^ 64
+unfolding outlineMarks columnTap
+outline-fact r h top H X Y p q n v w row x y =
+    let one : 1 + minus 1 ≡ 2 ^ 64 * 1 = unfold minus in refl in
+    let other : minus 1 + 1 ≡ 2 ^ 64 * 1 = unfold minus in refl in
+    let t = rowAt top (Y - h) (x - (X - r)) in
+    let b = rowAt (flipped top) (Y + h + 1) (x - (X - r)) in
+    let n' = flipped-columns top ∙ n in
+    ap (λ (m : ℕ). m % 2 ^ 64) (finish-append (lineMarks 1 (minus 1) (X - r) (Y - h) top) _ x y)
+    ∙ cong-add _ _ _ _
+    (line-fact 1 (minus 1) 1 (X - r) (Y - h) top one v x y)
+    (line-fact (minus 1) 1 1 (X - r) (Y + h + 1) (flipped top) other w x y)
+    ∙ rw (n, n') (by-lt x (X - r)
+    (λ g. rw (
+      strip-left (X - r) (2 * r + 1) x (within t y 1) g,
+      strip-left (X - r) (2 * r + 1) x (within b y (minus 1)) g,
+      within-no (dist x X) r (within (dist y Y) (H (dist x X)) 1) (omega arith),
+    ))
+    (λ g. by-lt x (X - r + (2 * r + 1))
+    (λ k.
+    let i : dist (x - (X - r)) r ≡ dist x X = omega arith in
+    let m : t + H (dist x X) ≡ Y = rw i at (row (x - (X - r)) (omega arith)) in
+    rw (
+      strip-in (X - r) (2 * r + 1) x (within t y 1) g k,
+      strip-in (X - r) (2 * r + 1) x (within b y (minus 1)) g k,
+      within-yes (dist x X) r (within (dist y Y) (H (dist x X)) 1) (omega arith),
+    )
+    (column-between Y (H (dist x X)) t b y m (mirror top (Y - h) (Y + h + 1) (x - (X - r)) v w ∙ omega arith)))
+    (λ k. rw (
+      strip-right (X - r) (2 * r + 1) x (within t y 1) k,
+      strip-right (X - r) (2 * r + 1) x (within b y (minus 1)) k,
+      within-no (dist x X) r (within (dist y Y) (H (dist x X)) 1) (omega arith),
+    ))))

@@ -1,0 +1,143 @@
+-- The slope sum of a mark, and THE PIECE FACT, for every slope d rows down less u rows up.
+use mathlib.Core.Path.{_≡_, refl, ap, sym, _∙_}
+use Prim.Native.Nat.{ℕ, zero, suc, _+_, _*_, _-_, _^_, _%_, _≤_, _<_}
+use native.Mathlib.Omega.{arith}
+use native.Mathlib.Nat.{mul-le-mul-right, add-mul-mod-self-left}
+use Rattle.kernels.specs.Choice.{within, same}
+use Rattle.kernels.specs.Sum.{Plane, slope}
+use Rattle.kernels.proofs.numbers.Choices.{by-lt, if-within, within-yes, within-no, same-yes, same-no, same-as, same-add, same-mul}
+
+-- w at one cell
+unfoldable pub at-cell : ℕ → ℕ → ℕ → Plane
+at-cell x0 y0 w x y = same x x0 (same y y0 w)
+
+-- THE SUM IS LINEAR
+pub slope-ext : (d u : ℕ) (f g : Plane) → ((x y : ℕ) → f x y ≡ g x y) → (x y : ℕ) → slope d u f x y ≡ slope d u g x y
+unfolding slope
+slope-ext d u f g h zero y = h 0 y
+slope-ext d u f g h (suc x) y = rw (h (suc x) y, slope-ext d u f g h x (y + u - d))
+
+pub slope-add : (d u : ℕ) (f g : Plane) (x y : ℕ)
+    → slope d u (λ i j. f i j + g i j) x y ≡ slope d u f x y + slope d u g x y
+unfolding slope
+slope-add d u f g zero y = refl
+slope-add d u f g (suc x) y =
+    by-lt (y + u) d
+    (λ h. simp (within-no d (y + u)) (omega arith))
+    (λ h. simp (within-yes d (y + u)) (omega (arith, slope-add d u f g x (y + u - d))))
+
+pub slope-mul : (d u c : ℕ) (f : Plane) (x y : ℕ) → slope d u (λ i j. c * f i j) x y ≡ c * slope d u f x y
+unfolding slope
+slope-mul d u c f zero y = refl
+slope-mul d u c f (suc x) y =
+    by-lt (y + u) d
+    (λ h. simp (within-no d (y + u)) (omega arith))
+    (λ h. simp (within-yes d (y + u)) (omega (arith, slope-mul d u c f x (y + u - d))))
+
+cell-add : (x0 y0 v w x y : ℕ) → at-cell x0 y0 (v + w) x y ≡ at-cell x0 y0 v x y + at-cell x0 y0 w x y
+unfolding at-cell
+cell-add x0 y0 v w x y = rw (same-add y y0 v w, same-add)
+
+cell-mul : (x0 y0 c w x y : ℕ) → at-cell x0 y0 (c * w) x y ≡ c * at-cell x0 y0 w x y
+unfolding at-cell
+cell-mul x0 y0 c w x y = rw (same-mul c y y0 w, same-mul)
+
+-- A RAY: the slope sum of one mark
+-- left of its mark nothing
+ray-left : (d u x0 y0 w x y : ℕ) → x < x0 → slope d u (at-cell x0 y0 w) x y ≡ 0
+unfolding slope at-cell
+ray-left d u x0 y0 w zero y h = same-no 0 x0 (same y y0 w) (omega arith)
+ray-left d u x0 y0 w (suc x) y h =
+    let a : same (suc x) x0 (same y y0 w) ≡ 0 = same-no (suc x) x0 (same y y0 w) (omega arith) in
+    let b : within d (y + u) (slope d u (at-cell x0 y0 w) x (y + u - d)) ≡ 0 =
+    if-within _ _ _ _ (λ g. ray-left d u x0 y0 w x (y + u - d) (omega arith)) (omega arith) in
+    omega arith
+
+-- k columns right of its mark: the mark on the line, else nothing
+ray : (d u x0 y0 w k x y : ℕ) → x ≡ x0 + k → slope d u (at-cell x0 y0 w) x y ≡ same (y + u * k) (y0 + d * k) w
+unfolding slope at-cell
+ray d u x0 y0 w zero zero y q =
+    same-yes 0 x0 (same y y0 w) (omega arith) ∙ same-as y y0 _ _ w (omega arith) (omega arith)
+ray d u x0 y0 w zero (suc x) y q =
+    let a = same-yes (suc x) x0 (same y y0 w) (omega arith) in
+    let b = same-as y y0 (y + u * 0) (y0 + d * 0) w (omega arith) (omega arith) in
+    let c : within d (y + u) (slope d u (at-cell x0 y0 w) x (y + u - d)) ≡ 0 =
+    if-within _ _ _ _ (λ g. ray-left d u x0 y0 w x (y + u - d) (omega arith)) (omega arith) in
+    omega arith
+ray d u x0 y0 w (suc k) zero y q = absurd (omega arith)
+ray d u x0 y0 w (suc k) (suc x) y q =
+    let a = same-no (suc x) x0 (same y y0 w) (omega arith) in
+    let c : within d (y + u) (slope d u (at-cell x0 y0 w) x (y + u - d)) ≡ same (y + u * suc k) (y0 + d * suc k) w =
+    if-within _ _ _ _
+    (λ g. ray d u x0 y0 w k x (y + u - d) (omega arith) ∙ same-as _ _ _ _ w (omega arith) (omega arith))
+    (λ g. let le : u ≤ d = omega arith in sym (same-no _ _ w (omega (arith, mul-le-mul-right k le)))) in
+    omega arith
+
+-- A PIECE of n columns: w on its line, in its columns
+unfoldable pub piece : ℕ → ℕ → ℕ → ℕ → ℕ → ℕ → Plane
+piece d u x0 y0 n w x y =
+    within x0 x (within (suc x) (x0 + n) (same (y + u * (x - x0)) (y0 + d * (x - x0)) w))
+
+-- from its start on the ray is the piece, and what starts a step past its end
+piece-ray : (d u x0 y0 n y1 w x y : ℕ) → y1 + u * n ≡ y0 + d * n
+    → slope d u (at-cell x0 y0 w) x y ≡ slope d u (at-cell (x0 + n) y1 w) x y + piece d u x0 y0 n w x y
+unfolding piece
+piece-ray d u x0 y0 n y1 w x y h =
+    by-lt x x0
+    (λ g. rw (within-no x0 x)
+    (omega (arith, ray-left d u x0 y0 w x y g, ray-left d u (x0 + n) y1 w x y (omega arith))))
+    (λ g.
+    let a = ray d u x0 y0 w (x - x0) x y (omega arith) in
+    rw (within-yes x0 x) (by-lt x (x0 + n)
+    (λ i. rw (within-yes (suc x) (x0 + n)) (omega (arith, ray-left d u (x0 + n) y1 w x y i)))
+    (λ i. rw (within-no (suc x) (x0 + n) (same (y + u * (x - x0)) (y0 + d * (x - x0)) w) (omega arith))
+    (let b = ray d u (x0 + n) y1 w (x - (x0 + n)) x y (omega arith) in
+    let s : x - x0 ≡ n + (x - (x0 + n)) = omega arith in
+    let c = same-as (y + u * (x - x0)) (y0 + d * (x - x0)) (y + u * (x - (x0 + n))) (y1 + d * (x - (x0 + n))) w
+    (rw s (omega arith)) (rw s (omega arith)) in
+    omega arith))))
+
+-- p at a piece's start and q a step past its last column
+unfoldable pub ends : ℕ → ℕ → ℕ → ℕ → ℕ → ℕ → Plane
+ends x0 y0 p x1 y1 q x y = at-cell x0 y0 p x y + at-cell x1 y1 q x y
+
+-- THE PIECE FACT: opposite marks at a piece's start and a step past its last column are summed to the piece
+pub piece-fact : (d u x0 y0 n y1 p q k x y : ℕ) → y1 + u * n ≡ y0 + d * n → p + q ≡ 2 ^ 64 * k
+    → slope d u (ends x0 y0 p (x0 + n) y1 q) x y % 2 ^ 64 ≡ piece d u x0 y0 n p x y % 2 ^ 64
+unfolding ends
+piece-fact d u x0 y0 n y1 p q k x y h s =
+    let z = slope-ext d u _ _ (cell-add (x0 + n) y1 p q) x y
+    ∙ slope-add d u (at-cell (x0 + n) y1 p) (at-cell (x0 + n) y1 q) x y in
+    let m = slope-ext d u _ _ (cell-mul (x0 + n) y1 (2 ^ 64) k) x y ∙ slope-mul d u (2 ^ 64) (at-cell (x0 + n) y1 k) x y in
+    let r : slope d u (at-cell (x0 + n) y1 (p + q)) x y ≡ 2 ^ 64 * slope d u (at-cell (x0 + n) y1 k) x y = rw s m in
+    let t : slope d u (λ i j. at-cell x0 y0 p i j + at-cell (x0 + n) y1 q i j) x y
+    ≡ piece d u x0 y0 n p x y + 2 ^ 64 * slope d u (at-cell (x0 + n) y1 k) x y =
+    omega (arith, slope-add d u (at-cell x0 y0 p) (at-cell (x0 + n) y1 q) x y, piece-ray d u x0 y0 n y1 p x y h) in
+    rw (t, add-mul-mod-self-left)
+
+-- PLANES OF h ROWS: the sum that reads 0 below the plane too, as "0 outside" says, is the slope sum
+unfoldable pub slopeIn : ℕ → ℕ → ℕ → Plane → Plane
+slopeIn h d u m zero y = m 0 y
+slopeIn h d u m (suc x) y =
+    m (suc x) y + within d (y + u) (within (suc (y + u - d)) h (slopeIn h d u m x (y + u - d)))
+
+-- below the plane a sum that comes from further below is 0
+slope-below : (h d u : ℕ) (m : Plane) → ((x y : ℕ) → h ≤ y → m x y ≡ 0) → d ≤ u
+    → (x y : ℕ) → h ≤ y → slope d u m x y ≡ 0
+unfolding slope
+slope-below h d u m z s zero y g = z 0 y g
+slope-below h d u m z s (suc x) y g =
+    let a : within d (y + u) (slope d u m x (y + u - d)) ≡ 0 =
+    if-within _ _ _ _ (λ k. slope-below h d u m z s x (y + u - d) (omega arith)) (omega arith) in
+    omega (arith, z (suc x) y g)
+
+pub slope-in : (h d u : ℕ) (m : Plane) → ((x y : ℕ) → h ≤ y → m x y ≡ 0)
+    → (x y : ℕ) → y < h → slopeIn h d u m x y ≡ slope d u m x y
+unfolding slope slopeIn
+slope-in h d u m z zero y g = refl
+slope-in h d u m z (suc x) y g =
+    ap (λ (n : ℕ). m (suc x) y + n) (if-within _ _ _ _
+    (λ k. rw (within-yes d (y + u) (slope d u m x (y + u - d))) (if-within _ _ _ _
+    (λ i. slope-in h d u m z x (y + u - d) i)
+    (λ i. sym (slope-below h d u m z (omega arith) x (y + u - d) (omega arith)))))
+    (λ k. sym (within-no d (y + u) (slope d u m x (y + u - d)) k)))

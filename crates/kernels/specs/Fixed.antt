@@ -1,0 +1,46 @@
+-- The paper's numbers that stand in more than one place, each named once. The code's names for them are in src/fixed.rt.
+use Prim.Native.Nat.{ℕ, _*_}
+
+-- "8,388,608": what a kernel's shares are parts of, and what a shown matte is counted in
+abbrev pub unit : ℕ
+unit = 8388608
+
+-- the radii of a shape in the table of shares, 0 to 64
+abbrev pub radii : ℕ
+radii = 65
+
+-- the shapes of the table, and its rows: "one table of 390 entries"
+abbrev pub shapeCount : ℕ
+shapeCount = 6
+
+abbrev pub tableRows : ℕ
+tableRows = shapeCount * radii
+
+-- the planes of a picture: "slopes −2, −1, 0, 1, 2, second box, third box"
+abbrev pub planesEach : ℕ
+planesEach = 7
+
+-- the places of three of them in that order
+abbrev pub level : ℕ
+level = 2
+
+abbrev pub secondBox : ℕ
+secondBox = 5
+
+abbrev pub thirdBox : ℕ
+thirdBox = 6
+
+-- "the image starting at column and row R + 3": how much further than a kernel reaches its marks may lie
+abbrev pub margin : ℕ
+margin = 3
+
+-- "value v 0 to 4,095, opacity a 0 to 255"
+abbrev pub valueTop : ℕ
+valueTop = 4095
+
+abbrev pub matteTop : ℕ
+matteTop = 255
+
+-- "depth Z (0 to 10,000,000)"
+abbrev pub depthTop : ℕ
+depthTop = 10000000

@@ -1,0 +1,2 @@
+-- What only contracts inside the engine use: no statement about a public call needs it.
+pub mod Drawing

@@ -1,0 +1,144 @@
+-- The check's refusal comes first; past it the word at the place and the shape are read as the definition reads them.
+use mathlib.Core.Path.{_≡_, sym, _∙_}
+use Prim.Native.Nat.{ℕ}
+use native.Mathlib.Omega.{arith}
+use denote.Ref.{now}
+use lib.ListN.{length, getD}
+use borrow.Author.Needs.{needs}
+use Rattle.kernels.specs.declared.shape.Shape.{Shape}
+use Rattle.kernels.specs.declared.shape.ShapeRead.the-variants.{Known, Unknown}
+use Rattle.plate.specs.Lent.{Sized, sized}
+use Rattle.plate.specs.Word.{Whole, readWord}
+use Rattle.plate.specs.Refusal.{Accepted, putCheck}
+use Rattle.plate.specs.Change.{askedPlace, putOver, putReadBy, putRead}
+use Rattle.plate.proofs.checks.Accepted.{PlateAccepted, plate-accepted, AskAccepted, ask-accepted}
+use Rattle.plate.proofs.change.read_put.Statement.{statement}
+use Rattle.plate.proofs.change.read_put.Tie as tie
+
+-- where the call starts
+abbrev start : tie.After-enum-told → tie.Start
+start c = c .before .before .before .before
+
+abbrev held : tie.Start → Sized
+held s = sized (s .args .planes) (length (now (s .args .pixels))) (s .args .log)
+
+-- the check passed
+checked : (c : tie.After-enum-told) → let s = start c in putCheck (s .args .state) (s .args .ask) (held s) ≡ Accepted
+checked c = sym (c .before .before .check-put .ensures) ∙ c .enum-told .given .1
+
+plate : (c : tie.After-enum-told) → PlateAccepted (start c .args .state) (held (start c))
+unfolding putCheck
+plate c = plate-accepted _ _ _ (checked c) .0
+
+asked : (c : tie.After-enum-told)
+    → let a = start c .args in AskAccepted (a .state .size) (a .state .count) (a .log) (a .ask)
+unfolding putCheck
+asked c = ask-accepted _ _ _ _ (plate-accepted _ _ _ (checked c) .1)
+
+-- where the stored word is read
+abbrev passed : tie.After-unpack → tie.After-enum-told
+passed c = c .before .before
+
+-- the stored word is a pixel's
+read : (c : tie.After-old)
+    → let a = start (passed (c .before .before)) .args in
+    readWord (a .state .size .reach) (getD (now (a .pixels)) (askedPlace (a .state .size) (a .ask)) 0) ≡ Whole (c .old .given .0 .0)
+read c = sym (c .before .before .unpack .ensures) ∙ c .old .given .1
+
+-- where the shape is read
+abbrev stored : tie.After-shape-of → tie.After-old
+stored c = c .before .before
+
+unknown-not : {P : Type 0} (s : Shape) → Unknown ≡ Known s → P
+unknown-not s e = let z : _≡_ {A = ℕ} 0 1 = cc in absurd (omega arith)
+
+check-put-requires : tie.Need-check-put-requires
+check-put-requires c κs = search needs
+
+enum-known-check : tie.Need-enum-known-check
+enum-known-check c = search needs
+
+returns : tie.Need-returns
+unfolding putRead putReadBy
+returns c =
+    let found = c .before in
+    rw (← found .before .before .check-put .ensures, found .check .given .1)
+
+enum-told : tie.Need-enum-told
+enum-told c = search needs
+
+mul-place : tie.Need-mul-place
+mul-place c = let told = c in omega (arith, asked told .place-in, plate told .lawful .places-top)
+
+add-place : tie.Need-add-place
+add-place c = let told = c in omega (arith, asked told .place-in, plate told .lawful .places-top)
+
+mul-unpack : tie.Need-mul-unpack
+mul-unpack c = let told = c in omega (arith, asked told .place-in, plate told .lawful .places-top)
+
+shared-slice-read-unpack : tie.Need-shared-slice-read-unpack
+shared-slice-read-unpack c = let told = c .before in omega (arith, asked told .place-in, plate told .lent .pixels-are)
+
+unpack-requires : tie.Need-unpack-requires
+unpack-requires c κs = search needs
+
+enum-known-old : tie.Need-enum-known-old
+enum-known-old c = search needs
+
+enum-told-2 : tie.Need-enum-told-2
+enum-told-2 c = search needs
+
+returns-2 : tie.Need-returns-2
+unfolding putRead putReadBy putOver
+returns-2 c =
+    let unpacked = c .before .before in
+    rw (checked (passed unpacked), ← unpacked .unpack .ensures, c .enum-told2 .given .1)
+
+shape-of-requires : tie.Need-shape-of-requires
+shape-of-requires c κs = search needs
+
+enum-known-shape : tie.Need-enum-known-shape
+enum-known-shape c = search needs
+
+enum-told-3 : tie.Need-enum-told-3
+enum-told-3 c = search needs
+
+returns-3 : tie.Need-returns-3
+returns-3 c =
+    let shaped = c .before .before in
+    let known = asked (passed (stored shaped .before .before)) .shape-known in
+    unknown-not _ (sym (c .enum-told3 .given .1) ∙ shaped .shape-of .ensures ∙ known)
+
+returns-4 : tie.Need-returns-4
+unfolding putRead putReadBy putOver
+returns-4 c =
+    let known = c .before in
+    let shaped = known .before .before in
+    let old = stored shaped in
+    rw (
+      checked (passed (old .before .before)),
+      read old,
+      sym (shaped .shape-of .ensures) ∙ known .shape .given .1,
+    )
+
+pub read-put-spec : {M : Type 1} → statement M
+read-put-spec =
+    tie.close
+    (tie.spec
+    check-put-requires
+    enum-known-check
+    returns
+    enum-told
+    mul-place
+    add-place
+    mul-unpack
+    shared-slice-read-unpack
+    unpack-requires
+    enum-known-old
+    enum-told-2
+    returns-2
+    shape-of-requires
+    enum-known-shape
+    enum-told-3
+    returns-3
+    returns-4)

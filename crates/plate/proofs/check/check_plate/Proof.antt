@@ -1,0 +1,35 @@
+-- The refusal of an open comes first, then the log count's.
+use borrow.Author.Needs.{needs}
+use Rattle.plate.specs.Refusal.{refuseIf, plateCheck}
+use Rattle.plate.proofs.checks.Chains.{tests, open-before}
+use Rattle.plate.proofs.check.check_plate.Statement.{statement}
+use Rattle.plate.proofs.check.check_plate.Tie as tie
+
+check-open-requires : tie.Need-check-open-requires
+check-open-requires c κs = search needs
+
+enum-told : tie.Need-enum-told
+enum-told c = search needs
+
+enum-told-2 : tie.Need-enum-told-2
+enum-told-2 c = search needs
+
+returns : tie.Need-returns
+unfolding plateCheck
+returns c = rw (open-before, ← c .before .before .check-open .ensures, c .enum-told2 .given .1)
+
+returns-2 : tie.Need-returns-2
+unfolding plateCheck refuseIf
+returns-2 c =
+    let told = c .before in
+    rw (open-before, ← told .before .before .check-open .ensures, told .enum-told .given .1) (search tests)
+
+returns-3 : tie.Need-returns-3
+unfolding plateCheck refuseIf
+returns-3 c =
+    let told = c .before in
+    rw (open-before, ← told .before .before .check-open .ensures, told .enum-told .given .1) (search tests)
+
+pub check-plate-spec : {M : Type 1} → statement M
+check-plate-spec =
+    tie.close (tie.spec check-open-requires enum-told enum-told-2 returns returns-2 returns-3)

@@ -1,0 +1,5 @@
+-- What checks in a row say, and what a call may count on when they accept.
+pub mod Chains
+pub mod Passed
+pub mod Accepted
+pub mod Scans

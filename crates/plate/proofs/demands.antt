@@ -1,0 +1,8 @@
+-- Demand 3 and demand 2: the plate mirrors the notebook through every list of calls.
+pub mod PlainSums
+pub mod Logs
+pub mod Mirror
+pub mod Fills
+pub mod Demand
+pub mod Reports
+pub mod Worked

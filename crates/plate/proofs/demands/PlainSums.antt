@@ -1,0 +1,138 @@
+-- What a show sums: the finished planes of a plate that holds a grid's marks are the grid's plain sums, which do not wrap.
+use mathlib.Core.Path.{_≡_, ap, _∙_}
+use mathlib.Core.List.{List}
+use Prim.Native.Nat.{ℕ, zero, suc, _+_, _*_, _/_, _%_, _^_, _≤_, _<_}
+use native.Mathlib.Omega.{arith}
+use native.Mathlib.Nat.{mod-mod, mod-eq-of-lt, le-trans, le-refl}
+use lib.ListN.{getD, length}
+use Rattle.kernels.specs.Sum.{sum, Row, dist, finish}
+use Rattle.kernels.specs.Mark.{Mark, marksTo, planesOf}
+use Rattle.kernels.proofs.numbers.Choices.{by-lt, within-yes, within-no}
+use Rattle.kernels.proofs.numbers.Products.{product-le}
+use Rattle.kernels.proofs.sums.FiniteSums.{sum-ext-lt, sum-zero, sum-cong}
+use Rattle.kernels.proofs.sums.PlaneSums.{_≈²_, finish-cong-planes}
+use Rattle.kernels.proofs.marking.MarkLists.{planes-to, finish-to}
+use Rattle.kernels.proofs.taps.Areas.{weight-le}
+use Rattle.kernels.proofs.marking.Kernel.{kernel}
+use Rattle.plate.specs.Layout.{Size, wide, high, padded, cell, places, columnOf, rowOf}
+use Rattle.plate.specs.Word.{Pixel}
+use Rattle.plate.specs.Marks.{pixelMarks, total}
+use Rattle.plate.specs.Calls.{stored, sumAt}
+use Rattle.plate.specs.Plain.{pixelAt, lightOf, matteOf, plainSum, gridCell}
+use Rattle.plate.specs.code.Bounds.{LawfulSize, Fits}
+use Rattle.plate.proofs.laying.Cells.{cell-lt, reach-under, laid, light-laid, matte-laid, laid-outside}
+use Rattle.plate.specs.Fixed.{planesInAll, placesTop}
+use Rattle.kernels.specs.Fixed.{matteTop, valueTop, planesEach, margin, unit}
+use Rattle.plate.specs.Kernel.{weightOf}
+
+-- THE PLAIN SUMS DO NOT WRAP
+sum-le : (f : Row) (c n : ℕ) → ((k : ℕ) → f k ≤ c) → sum f n ≤ n * c
+unfolding sum
+sum-le f c zero h = omega arith
+sum-le f c (suc n) h = omega (arith, sum-le f c n h, h n)
+
+-- "W × H at most 2,097,152", and a pixel of opacity 1 adds at most 8,388,608
+plain-le : (z : Size) (grid : List Pixel) (worth : Pixel → ℕ) (c i : ℕ) → LawfulSize z → ((j : ℕ) → worth (pixelAt grid j) ≤ c)
+    → plainSum z grid worth i ≤ placesTop * (c * unit)
+unfolding plainSum
+plain-le z grid worth c i law top =
+    le-trans
+    (sum-le _ (c * unit) (places z) (λ j. product-le (worth (pixelAt grid j)) _ c unit (top j) (weight-le _ _ _ _)))
+    (product-le (places z) (c * unit) placesTop (c * unit) (law .places-top) (le-refl _))
+
+-- "the finished light and matte don't: 255 × 4,095 × 2^44 is below 2^64"
+pub no-wrap : (z : Size) (grid : List Pixel) → LawfulSize z → ((j : ℕ) → Fits (z .reach) (pixelAt grid j)) → (i : ℕ)
+    → (plainSum z grid lightOf i < 2 ^ 64) × (plainSum z grid matteOf i < 2 ^ 64)
+no-wrap z grid law fits i = (
+  omega (arith, plain-le z grid lightOf (valueTop * matteTop) i law (λ j. product-le _ _ valueTop matteTop (fits j .value-fits) (byte j))),
+  omega (arith, plain-le z grid matteOf matteTop i law byte),
+)
+  where
+    byte : (j : ℕ) → pixelAt grid j .opacity ≤ matteTop
+    byte j = omega (arith, fits j .opacity-fits)
+
+-- THE FINISHED SUMS ARE THE PLAIN SUMS
+-- distances in a padded plane are those in the image
+dist-padded : (a b R : ℕ) → dist (a + R + margin) (b + R + margin) ≡ dist a b
+dist-padded a b R = omega arith
+
+-- the marks of the pixel at a place of a grid in one picture, by what a pixel is worth there, and those of all its pixels
+abbrev gridLaid : Size → List Pixel → (Pixel → ℕ) → ℕ → List Mark
+gridLaid z grid worth i = laid z (worth (pixelAt grid i)) i (pixelAt grid i)
+
+abbrev allLaid : Size → List Pixel → (Pixel → ℕ) → List Mark
+allLaid z grid worth = marksTo (gridLaid z grid worth) (places z)
+
+-- in a picture's planes from p on, a pixel's marks are those of that picture
+abbrev LaidFrom : Size → List Pixel → ℕ → (Pixel → ℕ) → Type 0
+LaidFrom z grid p worth =
+    (i : ℕ) → i < places z → (d x y : ℕ) → d < planesEach → x < wide z → y < high z
+    → total z (cell z (p + d) x y) (pixelMarks z i (pixelAt grid i)) ≡ planesOf (gridLaid z grid worth i) d x y
+
+module _ (z : Size) (planes : List ℕ) (grid : List Pixel) (law : LawfulSize z)
+    (cells : (k : ℕ) → k < planesInAll * padded z → getD planes k 0 ≡ gridCell z grid k)
+    (fits : (i : ℕ) → Fits (z .reach) (pixelAt grid i))
+    (p : ℕ) (low : p ≤ planesEach) (worth : Pixel → ℕ) (from : LaidFrom z grid p worth)
+  where
+    -- the planes hold the marks of all pixels
+    stored-inside : (d x y : ℕ) → d < planesEach → x < wide z → y < high z
+        → getD planes (cell z (p + d) x y) 0 % 2 ^ 64 ≡ planesOf (allLaid z grid worth) d x y % 2 ^ 64
+    unfolding gridCell
+    stored-inside d x y h px py =
+        let here = cells (cell z (p + d) x y) (cell-lt z planesInAll (p + d) x y (omega arith) px py) in
+        rw (here, mod-mod, planes-to (gridLaid z grid worth) (places z) d x y)
+        (ap (λ (n : ℕ). n % 2 ^ 64) (sum-ext-lt _ _ (places z) (λ i g. from i g d x y h px py)))
+
+    stored-outside : (d x y : ℕ) → (x < wide z → y < high z → ⊥) → planesOf (allLaid z grid worth) d x y ≡ 0
+    stored-outside d x y n =
+        planes-to (gridLaid z grid worth) (places z) d x y
+        ∙ sum-ext-lt _ (λ i. 0) (places z) (λ i g. laid-outside z law i g (pixelAt grid i) (fits i) d x y _ n)
+        ∙ sum-zero (places z)
+
+    stored-all : (d : ℕ) → d < planesEach → stored z planes p d ≈² planesOf (allLaid z grid worth) d
+    unfolding stored
+    stored-all d h x y =
+        by-lt x (wide z)
+        (λ px. by-lt y (high z)
+        (λ py. rw (within-yes (suc x) (wide z), within-yes (suc y) (high z)) (stored-inside d x y h px py))
+        (λ py. rw (within-yes (suc x) (wide z), within-no (suc y) (high z) _ (omega arith), stored-outside d x y (omega arith))))
+        (λ px. rw (within-no (suc x) (wide z) _ (omega arith), stored-outside d x y (omega arith)))
+
+    -- a pixel's marks, finished at another place
+    finish-one : (i j : ℕ) →
+        let q = pixelAt grid j in
+        let dx = dist (i % z .width) (j % z .width) in
+        let dy = dist (i / z .width) (j / z .width) in
+        finish (planesOf (gridLaid z grid worth j)) (columnOf z i) (rowOf z i) % 2 ^ 64
+        ≡ worth q * weightOf q dx dy % 2 ^ 64
+    unfolding laid
+    finish-one i j =
+        let q = pixelAt grid j in
+        let R = z .reach in
+        let u = reach-under R (q .shape) (q .radius) (fits j .radius-fits) in
+        rw (← dist-padded (i % z .width) (j % z .width) R, ← dist-padded (i / z .width) (j / z .width) R)
+        (kernel (q .shape) (q .radius) (worth q) (columnOf z j) (rowOf z j) (columnOf z i) (rowOf z i) (omega arith) (omega arith))
+
+    -- a finished sum is the plain one, wrapped
+    sum-wrapped : (i : ℕ) → sumAt z planes p i ≡ plainSum z grid worth i % 2 ^ 64
+    unfolding sumAt plainSum
+    sum-wrapped i =
+        finish-cong-planes (stored z planes p) (planesOf (allLaid z grid worth)) stored-all (columnOf z i) (rowOf z i)
+        ∙ ap (λ (n : ℕ). n % 2 ^ 64) (finish-to (gridLaid z grid worth) (places z) (columnOf z i) (rowOf z i))
+        ∙ sum-cong _ _ (finish-one i) (places z)
+
+-- the two sums of a show at a place are the plain ones
+pub show-fact : (z : Size) (planes : List ℕ) (grid : List Pixel) → LawfulSize z → length planes ≡ planesInAll * padded z
+    → ((k : ℕ) → k < planesInAll * padded z → getD planes k 0 ≡ gridCell z grid k)
+    → ((i : ℕ) → Fits (z .reach) (pixelAt grid i))
+    → (i : ℕ) → i < places z
+    → (sumAt z planes 0 i ≡ plainSum z grid lightOf i) × (sumAt z planes planesEach i ≡ plainSum z grid matteOf i)
+show-fact z planes grid law size cells fits i h =
+    let small = no-wrap z grid law fits i in (
+      sum-wrapped z planes grid law cells fits 0 (omega arith) lightOf
+          (λ i h. light-laid z law i h (pixelAt grid i) (fits i)) i
+          ∙ mod-eq-of-lt (small .0),
+      sum-wrapped z planes grid law cells fits planesEach (omega arith) matteOf
+          (λ i h d x y _. matte-laid z law i h (pixelAt grid i) (fits i) d x y) i
+          ∙ mod-eq-of-lt (small .1),
+    )

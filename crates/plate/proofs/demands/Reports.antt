@@ -1,0 +1,141 @@
+-- The mark counts of the reports: an accepted put or undo reports the marks of the shape that left plus those of the shape that
+-- came, which are 8 to 32; every other report has none.
+use mathlib.Core.Path.{_≡_, refl}
+use mathlib.Core.List.{List, [], _∷_}
+use Prim.Native.Nat.{ℕ, _+_, _*_, _≤_}
+use native.Mathlib.Omega.{arith}
+use lib.Dec.{lit≤}
+use lib.ListN.{length}
+use Rattle.kernels.specs.declared.shape.Shape.{Shape}
+use Rattle.kernels.specs.Shape.{shapeOf, countOf}
+use Rattle.kernels.specs.declared.lens.Lens.{Lens as LensOf}
+use Rattle.kernels.proofs.taps.ShapeNumbers.{count-few}
+use Rattle.plate.specs.Layout.{Size}
+use Rattle.plate.specs.Word.{Pixel, Entry}
+use Rattle.plate.specs.Refusal.{Refusal, Sizes, Lengths, LogCount, Place, Value, Shape as ShapeRefused, Radius, LogFull, LogEmpty, StoredWord, Lens, Depth, refusalNumber, Outcome, Accepted, Refused, askCheck, openCheck}
+use Rattle.plate.specs.Lent.{Lent, sizedAs, Ask, ask, Inputs, inputs}
+use Rattle.plate.specs.Calls.{openCall}
+use Rattle.plate.specs.Change.{askedPlace, askedPixel, knownShape}
+use Rattle.plate.specs.Plain.{pixelAt}
+use Rattle.plate.specs.Notebook.{Book, bookOf, Report, plain, bookPutBy, bookPut, bookUndoOf, bookUndo, bookFillBy, bookFill, bookShowBy, bookShow}
+use Rattle.plate.specs.Lists.{Byte, codes, Call, putIt, undoIt, fillIt, showIt, leftBy, plateStep, bookStep, plateReports, bookReports}
+use Rattle.plate.proofs.demands.Demand.{demand-3}
+use Rattle.plate.proofs.demands.Mirror.{Mirrored, mirror, put-agrees, undo-agrees}
+use Rattle.plate.specs.Kernel.{markCount}
+
+-- NUMBERS
+pub counts-few : (s t : Shape) → (8 ≤ countOf s + countOf t) × (countOf s + countOf t ≤ 32)
+counts-few s t =
+    let a = count-few s in
+    let b = count-few t in
+    (omega arith, omega arith)
+
+pub refusal-some : (f : Refusal) → 1 ≤ refusalNumber f
+refusal-some Sizes = lit≤ tt
+refusal-some Lengths = lit≤ tt
+refusal-some LogCount = lit≤ tt
+refusal-some Place = lit≤ tt
+refusal-some Value = lit≤ tt
+refusal-some ShapeRefused = lit≤ tt
+refusal-some Radius = lit≤ tt
+refusal-some LogFull = lit≤ tt
+refusal-some LogEmpty = lit≤ tt
+refusal-some StoredWord = lit≤ tt
+refusal-some Lens = lit≤ tt
+refusal-some Depth = lit≤ tt
+
+-- WHAT EACH CALL REPORTS
+-- an accepted call reports n marks, a refused one none
+pub record Told (n : ℕ) (r : Report) : Type 0 where
+  pub if-accepted : r .number ≡ 0 → r .marks ≡ n
+  pub if-refused : (r .number ≡ 0 → ⊥) → r .marks ≡ 0
+
+told-refused : (n : ℕ) (f : Refusal) → Told n (plain (refusalNumber f) 0)
+told-refused n f = record { if-accepted = λ e. absurd (omega (arith, refusal-some f)); if-refused = λ d. refl }
+
+told-accepted : (n : ℕ) → Told n (plain 0 n)
+told-accepted n = record { if-accepted = λ e. refl; if-refused = λ d. absurd (d refl) }
+
+-- on the notebook
+book-put : (b : Book) (a : Ask)
+    → Told (markCount (pixelAt (b .grid) (askedPlace (b .size) a)) + markCount (askedPixel a)) (bookPut b a .report)
+unfolding bookPut
+book-put b a = by (askCheck (b .size) (length (b .pile)) (b .room) a)
+  where
+    by : (o : Outcome)
+        → Told (markCount (pixelAt (b .grid) (askedPlace (b .size) a)) + markCount (askedPixel a)) (bookPutBy o b a .report)
+    by Accepted = unfold bookPutBy in (told-accepted _)
+    by (Refused f) = unfold bookPutBy in (told-refused _ f)
+
+-- on a plate: "Both report the table's marks of the old shape plus those of the new"
+module _ (z : Size) (room : ℕ) (planes : List ℕ) (grid : List Pixel) where
+  pub put-reports : (pile : List Entry) → Mirrored z room planes grid pile → (x y v : ℕ) (a : Byte) (s : ℕ) (r : Byte)
+      → Told (countOf (pixelAt grid (y * z .width + x) .shape) + countOf (knownShape (shapeOf s)))
+      (plateStep (mirror z room planes grid pile) (putIt x y v a s r) .report)
+  unfolding plateStep
+  put-reports pile kept x y v a s r =
+      let p = ask x y v (a .code) s (r .code) in
+      rw (put-agrees z room planes grid pile kept p (a .small) .same-report) (book-put (bookOf z room grid pile) p)
+
+  pub undo-reports : (e : Entry) (pile : List Entry) → Mirrored z room planes grid (e ∷ pile)
+      → plateStep (mirror z room planes grid (e ∷ pile)) undoIt .report
+      ≡ plain 0 (markCount (pixelAt grid (e .place)) + markCount (e .pixel))
+  unfolding plateStep bookUndo bookUndoOf
+  undo-reports e pile kept = undo-agrees z room planes grid (e ∷ pile) kept .same-report
+
+-- 8 TO 32
+-- a put or an undo: 8 to 32 marks if accepted, none if refused
+pub record Few (r : Report) : Type 0 where
+  pub if-accepted : r .number ≡ 0 → (8 ≤ r .marks) × (r .marks ≤ 32)
+  pub if-refused : (r .number ≡ 0 → ⊥) → r .marks ≡ 0
+
+few : (s t : Shape) (r : Report) → Told (countOf s + countOf t) r → Few r
+few s t r h = record { if-accepted = λ e. rw (h .if-accepted e) (counts-few s t); if-refused = h .if-refused }
+
+unfoldable pub CountOf : Call → Report → Type 0
+CountOf (putIt x y v a s r) t = Few t
+CountOf undoIt t = Few t
+-- "Fill and show report 0."
+CountOf (fillIt o s vs bs zs) t = t .marks ≡ 0
+CountOf (showIt v) t = t .marks ≡ 0
+
+-- each call of a list has its report, with such a count
+unfoldable pub Counted : List Call → List Report → Type 0
+Counted [] [] = Unit
+Counted [] (r ∷ rs) = ⊥
+Counted (c ∷ cs) [] = ⊥
+Counted (c ∷ cs) (r ∷ rs) = CountOf c r × Counted cs rs
+
+undo-few : (z : Size) (room : ℕ) (grid : List Pixel) (pile : List Entry) → Few (bookUndoOf z room grid pile .report)
+unfolding bookUndoOf
+undo-few z room grid [] = record { if-accepted = λ e. absurd (omega arith); if-refused = λ d. refl }
+undo-few z room grid (e ∷ pile) = few (pixelAt grid (e .place) .shape) (e .pixel .shape) _ (told-accepted _)
+
+fill-none : (c : Outcome) (b : Book) (o : LensOf) (n : ℕ) (f : Inputs) → bookFillBy c b o n f .report .marks ≡ 0
+unfolding bookFillBy
+fill-none Accepted b o n f = refl
+fill-none (Refused g) b o n f = refl
+
+show-none : (c : Outcome) (b : Book) → bookShowBy c b .report .marks ≡ 0
+unfolding bookShowBy
+show-none Accepted b = refl
+show-none (Refused g) b = refl
+
+step-counted : (b : Book) (c : Call) → CountOf c (bookStep b c .report)
+unfolding CountOf bookStep bookUndo bookFill bookShow
+step-counted b (putIt x y v a s r) =
+    few (pixelAt (b .grid) (y * b .size .width + x) .shape) (knownShape (shapeOf s)) _
+    (book-put b (ask x y v (a .code) s (r .code)))
+step-counted b undoIt = undo-few (b .size) (b .room) (b .grid) (b .pile)
+step-counted b (fillIt o s vs bs zs) = fill-none _ b o s (inputs vs (codes bs) zs)
+step-counted b (showIt v) = show-none _ b
+
+pub book-counted : (b : Book) (calls : List Call) → Counted calls (bookReports b calls)
+unfolding Counted bookReports
+book-counted b [] = tt
+book-counted b (c ∷ cs) = (step-counted b c, book-counted (bookStep b c .book) cs)
+
+-- in every list after an accepted open, an accepted put or undo reports 8 to 32 marks and every other call none
+pub plate-counted : (z : Size) (l : Lent) (calls : List Call) → openCheck z (sizedAs l) ≡ Accepted
+    → Counted calls (plateReports (leftBy (openCall z l)) calls)
+plate-counted z l calls e = rw (demand-3 z l calls e .0) (book-counted _ calls)

@@ -1,0 +1,67 @@
+-- The paper's record run as a list of calls: "01 03 00 01 00 01 02 01 00 00 00 64 00 FF 00 01 02 00 00 00 00 28 00 FF 00 00 04
+-- 03 04". The notebook's reports of it, computed, and so the plate's.
+use mathlib.Core.Path.{_≡_, refl, _∙_}
+use mathlib.Core.List.{List, [], _∷_}
+use Prim.Native.Nat.{ℕ}
+use lib.Dec.{lit<}
+use Rattle.kernels.specs.Choice.{within}
+use Rattle.kernels.specs.Sum.{sum}
+use Rattle.kernels.specs.Tap.{tap, area, share, weight}
+use Rattle.kernels.specs.Rounding.{nearest, shownValue, shownMatte}
+use Rattle.plate.specs.Layout.{Size}
+use Rattle.plate.specs.Refusal.{Accepted, refuseIf, sizesCheck, lentCheck, placeCheck, kernelCheck, askCheck, viewsCheck, openCheck}
+use Rattle.plate.specs.Lent.{Lent, lent, sizedAs, Views, views}
+use Rattle.plate.specs.Calls.{zeros, listTo, openCall}
+use Rattle.plate.specs.Plain.{plainSum, plainValues, plainMattes}
+use Rattle.plate.specs.Notebook.{openBook, both, Report, plain, bookPutBy, bookPut, bookUndoOf, bookUndo, bookShowBy, bookShow}
+use Rattle.plate.specs.Lists.{Byte, Call, putIt, undoIt, showIt, leftBy, plateReports, bookStep, bookReports}
+use Rattle.plate.proofs.demands.Demand.{demand-3}
+
+-- "open (W 2 bytes, H 2, R 1)": 3 × 1, reach 1; "The log has 64 entries."
+abbrev pub small : Size
+small = record { width = 3; height = 1; reach = 1 }
+
+-- a padded plane has 11 × 9 cells
+abbrev pub buffers : Lent
+buffers = lent (zeros 1386) (zeros 3) (zeros 64)
+
+abbrev pictures : Views
+pictures = views (zeros 297) (zeros 3) (zeros 3)
+
+abbrev full : Byte
+full = record { code = 255; small = lit< tt }
+
+abbrev one : Byte
+one = record { code = 1; small = lit< tt }
+
+abbrev none : Byte
+none = record { code = 0; small = lit< tt }
+
+-- put, put, show, undo, show
+abbrev pub run : List Call
+run = putIt 1 0 100 full 0 one ∷ putIt 0 0 40 full 0 none ∷ showIt pictures ∷ undoIt ∷ showIt pictures ∷ []
+
+abbrev shows : List ℕ → List ℕ → Report
+shows values mattes = record { number = 0; marks = 0; pictures = both values mattes }
+
+-- "46/255 100/28 100/28" and "100/28 100/28 100/28"; a box and a box are 8 marks
+abbrev pub runReports : List Report
+runReports =
+    plain 0 8
+    ∷ plain 0 8
+    ∷ shows (46 ∷ 100 ∷ 100 ∷ []) (255 ∷ 28 ∷ 28 ∷ [])
+    ∷ plain 0 8
+    ∷ shows (100 ∷ 100 ∷ 100 ∷ []) (28 ∷ 28 ∷ 28 ∷ [])
+    ∷ []
+
+pub book-run : bookReports (openBook small 64) run ≡ runReports
+unfolding bookReports bookStep bookPut bookPutBy bookUndo bookUndoOf bookShow bookShowBy askCheck placeCheck kernelCheck refuseIf viewsCheck plainValues plainMattes plainSum listTo weight share area tap sum within shownValue shownMatte nearest
+book-run = refl
+
+opened : openCheck small (sizedAs buffers) ≡ Accepted
+unfolding openCheck sizesCheck lentCheck refuseIf
+opened = refl
+
+-- so the plate reports it too
+pub plate-run : plateReports (leftBy (openCall small buffers)) run ≡ runReports
+plate-run = demand-3 small buffers run opened .0 ∙ book-run

@@ -1,0 +1,67 @@
+-- `take_pixel` and `lay_pixel` do what `exchanged` says one after the other, on planes of the same length.
+use mathlib.Core.Path.{_≡_, refl, _∙_}
+use Prim.Native.Nat.{ℕ}
+use denote.Ref.{now}
+use lib.ListN.{length}
+use borrow.Author.Needs.{needs}
+use Rattle.plate.specs.Word.{Pixel}
+use Rattle.plate.specs.Marks.{exchanged}
+use Rattle.plate.specs.code.Laying.{Placed}
+use Rattle.plate.proofs.exchange.exchange_marks.Statement.{statement}
+use Rattle.plate.proofs.exchange.exchange_marks.Tie as tie
+use Rattle.plate.specs.code.Bounds.{Fits}
+
+-- a pixel of the change at its place
+placed : (c : tie.After-frame-of) (n : ℕ) → let a = c .before .before .args in
+    (p : Pixel) → n ≡ length (now (a .planes)) → Fits (a .size .reach) p → Placed (c .frame-of .result) n (a .change .x) (a .change .y) p
+placed c n p e fits =
+    let s = c .before .before in
+    rw (c .frame-of .ensures)
+    (record {
+      framed = refl;
+      planes-are = e ∙ s .pre .planes-are;
+      column-in = s .pre .column-in;
+      row-in = s .pre .row-in;
+      radius-fits = fits .radius-fits;
+    })
+
+frame-of-requires : tie.Need-frame-of-requires
+frame-of-requires c κs = c .before .pre .lawful
+
+shares-requires : tie.Need-shares-requires
+shares-requires c κs = search needs
+
+take-pixel-requires : tie.Need-take-pixel-requires
+take-pixel-requires c κs =
+    let shared = c .before .before .before .before in
+    let framed = shared .before in
+    (placed framed _ _ refl (framed .before .before .pre .old-fits), shared .shares .ensures)
+
+lay-pixel-requires : tie.Need-lay-pixel-requires
+lay-pixel-requires c κs =
+    let shared = c .before .before .before .before .before .before .before .before .before in
+    let framed = shared .before in
+    (placed framed _ _ (search needs) (framed .before .before .pre .new-fits), shared .shares .ensures)
+
+same-length : tie.Need-same-length
+same-length c = search needs
+
+returns : tie.Need-returns
+unfolding exchanged
+returns c =
+    let laid = c .before .before in
+    let taken = laid .before .before .before .before .before in
+    let framed = taken .before .before .before .before .before .before in
+    let s = framed .before .before in
+    rw (laid .lay-pixel .ensures, taken .take-pixel .ensures, framed .frame-of .ensures, s .pre .place-is)
+
+pub exchange-marks-spec : {M : Type 1} → statement M
+exchange-marks-spec =
+    tie.close
+    (tie.spec
+    frame-of-requires
+    shares-requires
+    take-pixel-requires
+    lay-pixel-requires
+    same-length
+    returns)

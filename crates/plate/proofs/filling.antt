@@ -1,0 +1,2 @@
+-- A plate filled pixel by pixel.
+pub mod Filling

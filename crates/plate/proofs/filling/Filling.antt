@@ -1,0 +1,165 @@
+-- A plate filled pixel by pixel, and what a fill's checks tell.
+use mathlib.Core.Path.{_≡_, refl, ap, sym, _∙_}
+use mathlib.Core.Bool.{true, false, not}
+use mathlib.Core.List.{List, map}
+use Prim.Native.Nat.{ℕ, _+_, _≤_, _<_, min}
+use native.Mathlib.Omega.{arith}
+use native.Mathlib.Numerals.{add-one}
+use lib.ListN.{getD, set, length, length-map}
+use lib.Seq.{getD-set-same, getD-set-other, ext-getD}
+use borrow.Author.Count.{below-more}
+use borrow.Author.Tests.{not-false}
+use Rattle.kernels.specs.declared.shape.ShapeRead.{ShapeRead}
+use Rattle.kernels.specs.declared.shape.ShapeRead.the-variants.{Known, Unknown}
+use Rattle.kernels.specs.Shape.{shapeOf, topUnder}
+use Rattle.kernels.specs.declared.lens.Lens.{Lens}
+use Rattle.kernels.specs.declared.lens.Radius.{Radius}
+use Rattle.kernels.specs.declared.lens.Radius.the-variants.{Pixels}
+use Rattle.kernels.specs.Lens.{lawfulLens, blur, radiusFrom}
+use Rattle.kernels.proofs.lenses.ThinLens.{in-pixels}
+use Rattle.plate.specs.Word.{empty, wordOf}
+use Rattle.plate.specs.Lent.{State, stateOf, Lent, sizedAs, Inputs, Sized}
+use Rattle.plate.specs.Refusal.{Refusal, Outcome, Accepted, Refused, anyAbove, shapeCheck, layerCheck, fillCheck}
+use Rattle.plate.specs.Change.{knownShape}
+use Rattle.plate.specs.Marks.{pixelMarks, layAll, layGrid}
+use Rattle.plate.specs.Calls.{left, answerOf, refused, listTo, filled, fillBy, fillCall}
+use Rattle.plate.specs.code.Filling.{Layer, ToFill, NoFill, readBy, layerRead, layerSize, pixelOf, pixelFrom, Ready, FilledTo, Refilled, fillLengths, inputsRead, layerOf}
+use Rattle.plate.proofs.checks.Passed.{passed}
+use Rattle.plate.proofs.checks.Accepted.{fill-accepted}
+use Rattle.plate.proofs.checks.Chains.{fill-before, and-then}
+use Rattle.plate.proofs.numbers.Lists.{length-listTo, getD-listTo, word-at}
+use Rattle.plate.proofs.checks.Scans.{none-above}
+use Rattle.kernels.specs.Fixed.{valueTop, depthTop}
+
+-- ONE PIXEL
+-- the radius that a lawful lens gives a lawful depth
+pub radius-is : (l : Lens) (top z r : ℕ) (a : Radius) → lawfulLens l ≡ true → z ≤ depthTop → a ≡ radiusFrom l top z
+    → a ≡ Pixels r → r ≡ min top (blur l z)
+radius-is l top z r a e h p q =
+    let same : Pixels r ≡ Pixels (min top (blur l z)) = sym q ∙ p ∙ in-pixels l top z e h in
+    cc
+
+-- the pixel at a place, from what the inputs hold there
+pixel-at : (j : Layer) (f : Inputs) (i : ℕ) → j .top ≡ topUnder (j .shape) (layerSize j .reach)
+    → pixelFrom j (getD (f .values) i 0) (getD (f .opacities) i 0) (getD (f .depths) i 0) ≡ pixelOf j f i
+unfolding filled
+pixel-at j f i e = rw e
+
+-- PIXEL AFTER PIXEL
+module _ (j : Layer) (f : Inputs) (cells : List ℕ) where
+  pub filled-none : (pixels : List ℕ) (n : ℕ) → n ≡ 0 → FilledTo j f cells cells pixels n
+  unfolding layGrid
+  filled-none pixels n e = record { laid = rw e; stored = λ i l. absurd (omega arith) }
+
+  pub filled-more : (planes pixels after : List ℕ) (n word m : ℕ) → j .top ≡ topUnder (j .shape) (layerSize j .reach)
+      → n < length pixels
+      → m ≡ n + 1
+      → let p = pixelFrom j (getD (f .values) n 0) (getD (f .opacities) n 0) (getD (f .depths) n 0) in
+      after ≡ layAll (layerSize j) planes (pixelMarks (layerSize j) n p)
+      → word ≡ wordOf p
+      → FilledTo j f cells planes pixels n
+      → FilledTo j f cells after (set pixels n word) m
+  unfolding layGrid
+  filled-more planes pixels after n word m top h e laid stored done =
+      rw e
+      (record {
+        laid = rw (add-one n, laid, pixel-at j f n top, done .laid);
+        stored = below-more _ n
+            (λ i l. getD-set-other pixels n i word 0 (λ q. omega arith) ∙ done .stored i l)
+            (getD-set-same pixels n word 0 h ∙ stored ∙ ap wordOf (pixel-at j f n top));
+      })
+
+  -- all words
+  pub filled-all : (planes pixels : List ℕ) (n : ℕ) → length pixels ≡ n → FilledTo j f cells planes pixels n
+      → pixels ≡ map wordOf (listTo (pixelOf j f) n)
+  filled-all planes pixels n e done =
+      let g = pixelOf j f in
+      ext-getD 0 pixels (map wordOf (listTo g n))
+      (e ∙ sym (length-map (listTo g n) wordOf ∙ length-listTo g n))
+      (λ i l. done .stored i (omega arith)
+      ∙ sym (word-at (listTo g n) i ∙ ap wordOf (getD-listTo g n i empty (omega arith))))
+
+-- THE CHECKS
+-- a layer is read where its check accepts, and its refusal where it does not
+to-fill : (o : Outcome) (j k : Layer) → ToFill k ≡ readBy o j → (o ≡ Accepted) × (k ≡ j)
+to-fill Accepted j k e = (refl, cc)
+to-fill (Refused f) j k e = let z : _≡_ {A = ℕ} 0 1 = cc in absurd (omega arith)
+
+no-fill : (o : Outcome) (j : Layer) (f : Refusal) → NoFill f ≡ readBy o j → o ≡ Refused f
+no-fill Accepted j f e = let z : _≡_ {A = ℕ} 0 1 = cc in absurd (omega arith)
+no-fill (Refused g) j f e = let same : f ≡ g = cc in ap Refused (sym same)
+
+shape-passed : (s : ShapeRead) (next : Outcome) → shapeCheck s next ≡ Accepted → next ≡ Accepted
+unfolding shapeCheck
+shape-passed Unknown next e = let z : _≡_ {A = ℕ} 0 1 = cc in absurd (omega arith)
+shape-passed (Known s) next e = e
+
+-- 5, 6, 11 and 12
+record LayerAccepted (o : Lens) (f : Inputs) : Type 0 where
+  values-in : anyAbove valueTop (f .values) ≡ false
+  lens-lawful : lawfulLens o ≡ true
+  depths-in : anyAbove depthTop (f .depths) ≡ false
+
+layer-accepted : (o : Lens) (k : ℕ) (f : Inputs) → layerCheck o k f ≡ Accepted → LayerAccepted o f
+unfolding layerCheck
+layer-accepted o k f e =
+    let q1 = passed (anyAbove valueTop (f .values)) _ _ e in
+    let q2 = passed (not (lawfulLens o)) _ _ (shape-passed (shapeOf k) _ (q1 .1)) in
+    let q3 = passed (anyAbove depthTop (f .depths)) _ _ (q2 .1) in
+    record { values-in = q1 .0; lens-lawful = not-false _ (q2 .0); depths-in = q3 .0 }
+
+-- 1 to 3 of a fill, of what its inputs are
+abbrev lengthsOf : State → Inputs → Sized → Outcome
+lengthsOf s f n = fillLengths s n (length (f .values)) (length (f .opacities)) (length (f .depths))
+
+-- what a fill reads, past 1 to 3
+pub layer-past : (s : State) (o : Lens) (k : ℕ) (f : Inputs) (n : Sized) → lengthsOf s f n ≡ Accepted
+    → inputsRead (s .size) o k f ≡ layerRead s o k f n
+unfolding fillCheck
+layer-past s o k f n e = rw (fill-before s f n (layerCheck o k f), e)
+
+-- and what 1 to 3 refuse
+pub layer-before : (s : State) (o : Lens) (k : ℕ) (f : Inputs) (n : Sized) (why : Refusal) → lengthsOf s f n ≡ Refused why
+    → NoFill why ≡ layerRead s o k f n
+unfolding fillCheck
+layer-before s o k f n why e = rw (fill-before s f n (layerCheck o k f), e)
+
+module _ (s : State) (o : Lens) (k : ℕ) (f : Inputs) (l : Lent) where
+  pub layer-refused : (why : Refusal) → NoFill why ≡ layerRead s o k f (sizedAs l) → refused why s l ≡ fillCall s o k f l
+  unfolding fillCall fillBy
+  layer-refused why e = rw (no-fill (fillCheck s o k f (sizedAs l)) _ why e)
+
+  -- an accepted layer
+  module _ (j : Layer) (read : ToFill j ≡ layerRead s o k f (sizedAs l)) where
+    accepted : fillCheck s o k f (sizedAs l) ≡ Accepted
+    accepted = to-fill _ _ j read .0
+
+    made-is : j ≡ layerOf (s .size) o (knownShape (shapeOf k))
+    made-is = to-fill (fillCheck s o k f (sizedAs l)) (layerOf (s .size) o (knownShape (shapeOf k))) j read .1
+
+    pub layer-ready : Ready j (length (l .planes)) (length (l .pixels)) f
+    unfolding fillCheck
+    layer-ready =
+        let both = and-then _ _ (sym (fill-before s f (sizedAs l) (layerCheck o k f)) ∙ accepted) in
+        let h = fill-accepted s (sizedAs l) _ _ _ (both .0) in
+        let p = layer-accepted o k f (both .1) in
+        rw made-is
+        (record {
+          layable = record {
+            framed = refl;
+            top-is = refl;
+            lens-lawful = p .lens-lawful;
+            planes-are = h .lent .planes-are;
+          };
+          pixels-are = h .lent .pixels-are;
+          values-are = h .values-are;
+          opacities-are = h .opacities-are;
+          depths-are = h .depths-are;
+          values-in = none-above valueTop (f .values) (p .values-in);
+          depths-in = none-above depthTop (f .depths) (p .depths-in);
+        })
+
+    pub layer-filled : (planes pixels log : List ℕ) → Refilled j f (length (l .planes)) (length (l .log)) planes pixels log
+        → left (answerOf Accepted 0 (stateOf (layerSize j) 0)) planes pixels log ≡ fillCall s o k f l
+    unfolding fillCall fillBy
+    layer-filled planes pixels log made = rw (made .laid, made .stored, made .emptied, made-is, accepted)

@@ -1,0 +1,119 @@
+-- The refusals come in the table's order, and past them the layer is that of the plate, the lens and the known shape.
+use mathlib.Core.Path.{_≡_}
+use mathlib.Core.List.{List}
+use Prim.Native.Nat.{ℕ}
+use borrow.Author.Needs.{needs}
+use Rattle.plate.specs.Refusal.{Accepted, refuseIf, anyAbove, shapeCheck, lensCheck, depthsCheck, layerCheck}
+use Rattle.plate.specs.Lent.{inputs}
+use Rattle.plate.proofs.checks.Scans.{above-found}
+use Rattle.plate.proofs.layer.read_inputs.Statement.{statement}
+use Rattle.plate.proofs.layer.read_inputs.Tie as tie
+use Rattle.kernels.specs.Fixed.{depthTop}
+
+-- past the values' check and the shape's
+past : (c : tie.After-known-told) (opacities : List ℕ)
+    → let a = c .before .before .before .before .before .before .before .before .args in
+    layerCheck (a .lens) (a .shape) (inputs (a .values .now) opacities (a .depths .now))
+    ≡ lensCheck (a .lens) (depthsCheck (a .depths .now) Accepted)
+unfolding layerCheck refuseIf shapeCheck
+past c opacities =
+    let known = c .before in
+    let shaped = known .before .before in
+    let valued = shaped .before in
+    rw (← valued .before .value-above .ensures, valued .if1 .left, ← shaped .shape-of .ensures, known .known .given .1)
+
+-- the scan for depths past their top
+deep : (c : tie.After-depth-between)
+    → let lensed = c .before in
+    let a = lensed .before .before .before .before .before .before .before .before .before .before .args in
+    c .depth-between .result ≡ anyAbove depthTop (a .depths .now)
+deep c = above-found depthTop _ _ (c .depth-between .ensures .0) (c .depth-between .ensures .1)
+
+value-above-requires : tie.Need-value-above-requires
+value-above-requires c κs = c .before .before .pre .1
+
+returns : tie.Need-returns
+unfolding layerCheck refuseIf
+returns c = λ opacities. rw (← c .before .value-above .ensures, c .if1 .taken)
+
+shape-of-requires : tie.Need-shape-of-requires
+shape-of-requires c κs = search needs
+
+enum-known-known : tie.Need-enum-known-known
+enum-known-known c = search needs
+
+enum-told : tie.Need-enum-told
+enum-told c = search needs
+
+returns-2 : tie.Need-returns-2
+unfolding layerCheck refuseIf shapeCheck
+returns-2 c =
+    let shaped = c .before .before in
+    let valued = shaped .before in
+    λ opacities. rw (
+      ← valued .before .value-above .ensures,
+      valued .if1 .left,
+      ← shaped .shape-of .ensures,
+      c .enum-told .given .1,
+    )
+
+lawful-lens-requires : tie.Need-lawful-lens-requires
+lawful-lens-requires c κs = search needs
+
+returns-3 : tie.Need-returns-3
+unfolding refuseIf
+returns-3 c =
+    λ opacities. rw (past (c .before .before) opacities, ← c .before .lawful-lens .ensures, c .if2 .taken)
+
+depth-between-requires : tie.Need-depth-between-requires
+depth-between-requires c κs = c .before .before .before .before .before .before .before .before .before .before .pre .2
+
+returns-4 : tie.Need-returns-4
+unfolding refuseIf
+returns-4 c =
+    let lensed = c .before .before in
+    λ opacities. rw (
+      past (lensed .before .before) opacities,
+      ← lensed .before .lawful-lens .ensures,
+      lensed .if2 .left,
+      ← deep (c .before),
+      c .if3 .taken,
+    )
+
+layer-of-requires : tie.Need-layer-of-requires
+layer-of-requires c κs =
+    c .before .before .before .before .before .before .before .before .before .before .before .before .pre .0
+
+returns-5 : tie.Need-returns-5
+unfolding refuseIf
+returns-5 c =
+    let shallow = c .before in
+    let lensed = shallow .before .before in
+    let known = lensed .before .before in
+    λ opacities. rw (
+      past known opacities,
+      ← lensed .before .lawful-lens .ensures,
+      lensed .if2 .left,
+      ← deep (shallow .before),
+      shallow .if3 .left,
+      c .layer-of .ensures,
+      ← known .before .before .before .shape-of .ensures,
+      known .before .known .given .1,
+    )
+
+pub read-inputs-spec : {M : Type 1} → statement M
+read-inputs-spec =
+    tie.close
+    (tie.spec
+    value-above-requires
+    returns
+    shape-of-requires
+    enum-known-known
+    enum-told
+    returns-2
+    lawful-lens-requires
+    returns-3
+    depth-between-requires
+    returns-4
+    layer-of-requires
+    returns-5)

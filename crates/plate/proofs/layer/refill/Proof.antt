@@ -1,0 +1,60 @@
+-- Planes and log are cleared; the table is that of the shares; after all rows each pixel's marks lie there and its word is stored.
+use native.Mathlib.Omega.{arith}
+use lib.ListN.{length-replicate}
+use borrow.Author.Needs.{needs}
+use Rattle.plate.proofs.filling.Filling.{filled-all}
+use Rattle.plate.proofs.layer.refill.Statement.{statement}
+use Rattle.plate.proofs.layer.refill.Tie as tie
+
+abbrev entry : tie.After-clear-both → tie.Start
+entry c = c .before .before .before .before .before .before .before .before .before
+
+clear-both-requires : tie.Need-clear-both-requires
+clear-both-requires c κs = search needs
+
+shares-requires : tie.Need-shares-requires
+shares-requires c κs = search needs
+
+fill-rows-requires : tie.Need-fill-rows-requires
+fill-rows-requires c κs =
+    let shared = c .before .before .before in
+    let cleared = shared .before .before .before .before .before in
+    (rw (cleared .clear-both .ensures .0, length-replicate) (entry cleared .pre), shared .shares .ensures)
+
+accepted-requires : tie.Need-accepted-requires
+accepted-requires c κs = search needs
+
+same-length : tie.Need-same-length
+same-length c = search needs
+
+same-length-2 : tie.Need-same-length-2
+same-length-2 c = search needs
+
+same-length-3 : tie.Need-same-length-3
+same-length-3 c = search needs
+
+returns : tie.Need-returns
+returns c =
+    let made = c .before .before .before .before .before .before in
+    let cleared = made .before .before .before .before .before .before .before .before .before in
+    let done = made .fill-rows .ensures in (
+      c .accepted .ensures,
+      record {
+        laid = rw (done .laid, cleared .clear-both .ensures .0);
+        stored = filled-all _ _ _ _ _ _ (omega (arith, entry cleared .pre .pixels-are)) done;
+        emptied = cleared .clear-both .ensures .1;
+      },
+    )
+
+pub refill-spec : {M : Type 1} → statement M
+refill-spec =
+    tie.close
+    (tie.spec
+    clear-both-requires
+    shares-requires
+    fill-rows-requires
+    accepted-requires
+    same-length
+    same-length-2
+    same-length-3
+    returns)

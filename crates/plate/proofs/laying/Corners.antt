@@ -1,0 +1,205 @@
+-- A kernel's drawing, laid from its corner, is the kernel's marks laid around its pixel.
+use mathlib.Core.Path.{_≡_, refl, ap, sym, _∙_}
+use mathlib.Core.List.{List, [], _∷_}
+use Prim.Native.Nat.{ℕ, zero, suc, _+_, _*_, _-_, _%_, _^_, _≤_, _<_}
+use native.Mathlib.Omega.{arith}
+use native.Mathlib.Nat.{mul-assoc, mod-mod, mod-eq-of-lt, div-eq-of-lt, mul-add-mod-self-right, mul-add-div-right, mul-le-mul-right}
+use lib.ListN.{length, length-append}
+use Rattle.kernels.specs.declared.shape.Shape.{Shape}
+use Rattle.kernels.specs.declared.mark.Drawing.{Drawing}
+use Rattle.kernels.specs.declared.mark.Drawing.the-variants.{Grid, Lines}
+use Rattle.kernels.specs.Shape.{reachOf, topOf, countOf}
+use Rattle.kernels.specs.Tap.{share, shareUpTo}
+use Rattle.kernels.specs.declared.share.Share.{Share}
+use Rattle.kernels.specs.Share.{shareParts}
+use Rattle.plate.proofs.laying.Cells.{reach-under}
+use Rattle.kernels.specs.Mark.{Mark, minus, scaled, marksTo, boxGrid, tapMarks, marks}
+use Rattle.kernels.specs.code.Drawing.{drawnMarks, moved}
+use Rattle.kernels.proofs.numbers.Products.{product-le}
+use Rattle.kernels.proofs.taps.ShapeNumbers.{count-few}
+use Rattle.kernels.proofs.numbers.Choices.{within-yes, by-lt}
+use Rattle.kernels.proofs.drawing.MarkPlaces.{Each, Near, marks-near, tap-marks-moved, tap-marks-count}
+use Rattle.plate.specs.Layout.{Size, wide, high, padded, columnOf, rowOf}
+use Rattle.plate.specs.Word.{Pixel}
+use Rattle.plate.specs.Marks.{inBoth, pixelMarks, cellOf, layOne, layAll}
+use Rattle.plate.proofs.numbers.Extents.{place-within}
+use Rattle.plate.proofs.laying.LaidCells.{lay-one-mod}
+use Rattle.plate.specs.code.Laying.{Worth, worthOf, Ground, layWorth, layDrawn, FewBoxes, AllIn, kernelAt, marksAt, Placed}
+use Rattle.plate.specs.code.Bounds.{Frame, frameOf}
+use Rattle.plate.proofs.laying.Worths.{times-number}
+use Rattle.kernels.specs.Fixed.{planesEach, margin}
+
+-- WHERE A PIXEL LIES
+-- "place being y × W + x"
+pub column-at : (z : Size) (x y : ℕ) → x < z .width → columnOf z (y * z .width + x) ≡ x + z .reach + margin
+column-at z x y h = rw (mul-add-mod-self-right y (z .width) x, mod-eq-of-lt h)
+
+pub row-at : (z : Size) (x y : ℕ) → x < z .width → rowOf z (y * z .width + x) ≡ y + z .reach + margin
+row-at z x y h = rw (mul-add-div-right {m = z .width} (omega arith) y x, div-eq-of-lt h) (omega arith)
+
+-- a cell of a plane
+cell-in : (w h a b p x y : ℕ) → p < planesEach → x + a < w → y + b < h
+    → b * w + a + (p * (w * h) + (y * w + x)) < planesEach * (w * h)
+cell-in w h a b p x y pl col row =
+    let m : (y + b + 1) * w ≤ h * w = mul-le-mul-right w (omega arith) in
+    let n : (p + 1) * (w * h) ≤ planesEach * (w * h) = mul-le-mul-right (w * h) (omega arith) in
+    omega arith
+
+-- the ground of a drawing that lies a columns and b rows from the first cell
+abbrev pub groundOf : Frame → ℕ → ℕ → Ground
+groundOf f a b = record { wide = f .wide; padded = f .padded; corner = b * f .wide + a }
+
+-- marks near enough to a pixel lie in the planes
+near-inside : (z : Size) (a b c d X Y : ℕ) → X + d < wide z → Y + d < high z → (ms : List Mark)
+    → Each (Near d X Y) (scaled c (moved a b ms)) → AllIn (groundOf (frameOf z) a b) ms
+unfolding Each scaled moved AllIn
+near-inside z a b c d X Y p q [] h = tt
+near-inside z a b c d X Y p q (m ∷ ms) h =
+    let n = h .0 in
+    let right = n .right-in in
+    let bottom = n .bottom-in in (
+      cell-in (wide z) (high z) a b (m .plane) (m .column) (m .row) (n .plane-in) (omega arith) (omega arith),
+      near-inside z a b c d X Y p q ms (h .1),
+    )
+
+-- LAID
+lay-alike-both : (cells : List ℕ) (j k v w x y : ℕ) → v % 2 ^ 64 ≡ w % 2 ^ 64 → x % 2 ^ 64 ≡ y % 2 ^ 64
+    → layOne (layOne cells j v) k x ≡ layOne (layOne cells j w) k y
+lay-alike-both cells j k v w x y e f = rw (lay-one-mod cells j v w e) (lay-one-mod (layOne cells j w) k x y f)
+
+-- a cell counted from the drawing's corner, and from the first cell
+spot-cell : (w P a b p x y : ℕ) → b * w + a + (p * P + (y * w + x)) ≡ p * P + ((y + b) * w + (x + a))
+spot-cell w P a b p x y = omega arith
+
+matte-cell : (P p n : ℕ) → planesEach * P + (p * P + n) ≡ (planesEach + p) * P + n
+matte-cell P p n = omega arith
+
+-- the marks of a drawing, moved from the corner
+drawn-laid : (z : Size) (w : Worth) (a b : ℕ) (cells : List ℕ) (ms : List Mark)
+    → layDrawn (groundOf (frameOf z) a b) w cells ms ≡ layAll z cells (inBoth (w .light) (w .matte) (moved a b ms))
+unfolding layDrawn layWorth layAll inBoth moved
+drawn-laid z w a b cells [] = refl
+drawn-laid z w a b cells (m ∷ ms) =
+    rw (
+      spot-cell (wide z) (padded z) a b (m .plane) (m .column) (m .row),
+      matte-cell (padded z) (m .plane) ((m .row + b) * wide z + (m .column + a)),
+      lay-one-mod cells _ ((w .light * m .coefficient) % 2 ^ 64) (w .light * m .coefficient) (mod-mod _ _),
+      lay-one-mod _ _ ((w .matte * m .coefficient) % 2 ^ 64) (w .matte * m .coefficient) (mod-mod _ _),
+    )
+    (drawn-laid z w a b _ ms)
+
+-- KERNELS
+-- the marks around a pixel are those of the drawing, moved by what the kernel leaves of the margin
+around : (z : Size) (x y : ℕ) (s : Shape) (r : ℕ) (ms : List Mark) → x < z .width → reachOf s r ≤ z .reach
+    → ms ≡ tapMarks s r (reachOf s r + margin) (reachOf s r + margin)
+    → tapMarks s r (columnOf z (y * z .width + x)) (rowOf z (y * z .width + x))
+    ≡ moved (x + (z .reach - reachOf s r)) (y + (z .reach - reachOf s r)) ms
+around z x y s r ms h k e =
+    let n = reachOf s r in
+    let column : x + z .reach + margin ≡ n + margin + (x + (z .reach - n)) = omega arith in
+    let row : y + z .reach + margin ≡ n + margin + (y + (z .reach - n)) = omega arith in
+    rw (column-at z x y h, row-at z x y h, column, row, e)
+    (tap-marks-moved (x + (z .reach - n)) (y + (z .reach - n)) s r (n + margin) (n + margin) (omega arith) (omega arith))
+
+-- what a kernel leaves of the reach on each side
+abbrev pub spare : Frame → Pixel → ℕ
+spare f p = f .size .reach - reachOf (p .shape) (p .radius)
+
+-- the ground of a pixel's kernel
+abbrev pub groundAt : Frame → ℕ → ℕ → Pixel → Ground
+groundAt f x y p = groundOf f (x + spare f p) (y + spare f p)
+
+module _ (f : Frame) (n x y : ℕ) (p : Pixel) (placed : Placed f n x y p) where
+  pub reaches : reachOf (p .shape) (p .radius) ≤ f .size .reach
+  reaches = reach-under (f .size .reach) (p .shape) (p .radius) (placed .radius-fits)
+
+  -- the corner of the drawing is a cell of a plane
+  pub corner-in : groundAt f x y p .corner < f .padded
+  corner-in =
+      let z = f .size in
+      let s = spare f p in
+      let column = placed .column-in in
+      let row = placed .row-in in
+      rw (placed .framed) (place-within (x + s) (y + s) (wide z) (high z) (omega arith) (omega arith))
+
+  module _ (ms : List Mark) (drawn : ms ≡ tapMarks (p .shape) (p .radius) (reachOf (p .shape) (p .radius) + margin) (reachOf (p .shape) (p .radius) + margin)) where
+    pub kernel-laid : (w : Worth) (cells : List ℕ)
+        → layDrawn (groundAt f x y p) w cells ms ≡ layAll (f .size) cells (kernelAt f x y p w)
+    kernel-laid w cells =
+        rw (around (f .size) x y (p .shape) (p .radius) ms (placed .column-in) reaches drawn, placed .framed)
+        (drawn-laid (f .size) w _ _ cells ms)
+
+    pub kernel-inside : AllIn (groundAt f x y p) ms
+    unfolding marks
+    kernel-inside =
+        let z = f .size in
+        let R = z .reach in
+        let X = columnOf z (y * z .width + x) in
+        let Y = rowOf z (y * z .width + x) in
+        let right = placed .column-in in
+        let low = placed .row-in in
+        let column = column-at z x y right in
+        let row = row-at z x y right in
+        rw (placed .framed)
+        (near-inside z _ _ (share (p .shape) (p .radius)) (R + margin) X Y (omega arith) (omega arith) ms
+        (rw (around z x y (p .shape) (p .radius) ms right reaches drawn) at (marks-near (p .shape) (p .radius) R X Y reaches (omega arith) (omega arith))))
+
+-- PIXELS
+-- the share goes into the worth
+both-scaled : (l m c : ℕ) (ms : List Mark) → inBoth l m (scaled c ms) ≡ inBoth (l * c) (m * c) ms
+unfolding inBoth scaled
+both-scaled l m c [] = refl
+both-scaled l m c (k ∷ ms) = rw (← mul-assoc l c (k .coefficient), ← mul-assoc m c (k .coefficient), both-scaled l m c ms)
+
+-- "A mark is worth its sign or factor times a × s, and in light times v as well"
+pub pixel-worth : (f : Frame) (n x y : ℕ) (p : Pixel) (s : Share) → Placed f n x y p → s ≡ shareParts (p .shape) (p .radius)
+    → kernelAt f x y p (worthOf p s) ≡ marksAt f x y p
+unfolding pixelMarks marks shareUpTo shareParts
+pixel-worth f n x y p s placed e =
+    rw (
+      e,
+      within-yes (p .radius) (topOf (p .shape)) (share (p .shape) (p .radius)) (omega (arith, placed .radius-fits)),
+      both-scaled,
+      mul-assoc (p .value) (p .opacity) (share (p .shape) (p .radius)),
+    )
+
+-- minus a worth is laid as minus its marks
+opposite-alike : (l c : ℕ) → ((l * minus 1) % 2 ^ 64 * c) % 2 ^ 64 ≡ (minus 1 * (l * c)) % 2 ^ 64
+opposite-alike l c = times-number l (minus 1) c ∙ ap (λ (n : ℕ). n % 2 ^ 64) (omega arith)
+
+pub opposite-laid : (z : Size) (l m : ℕ) (cells : List ℕ) (ms : List Mark)
+    → layAll z cells (inBoth ((l * minus 1) % 2 ^ 64) ((m * minus 1) % 2 ^ 64) ms)
+    ≡ layAll z cells (scaled (minus 1) (inBoth l m ms))
+unfolding layAll inBoth scaled
+opposite-laid z l m cells [] = refl
+opposite-laid z l m cells (k ∷ ms) =
+    ap (λ (laid : List ℕ). layAll z laid (inBoth ((l * minus 1) % 2 ^ 64) ((m * minus 1) % 2 ^ 64) ms))
+    (lay-alike-both cells (cellOf z k) _ _ _ _ _ (opposite-alike l (k .coefficient)) (opposite-alike m (k .coefficient)))
+    ∙ opposite-laid z l m _ ms
+
+-- BOXES
+-- n boxes make (n + 1)² marks, and a kernel has 4 to 16, so that it has one to three boxes
+length-to : (f : ℕ → List Mark) (k n : ℕ) → ((i : ℕ) → length (f i) ≡ k) → length (marksTo f n) ≡ n * k
+unfolding marksTo
+length-to f k zero h = omega arith
+length-to f k (suc n) h = rw (length-append, length-to f k n h, h n) (omega arith)
+
+grid-length : (p n l x y : ℕ) → length (boxGrid p n l x y) ≡ suc n * suc n
+unfolding boxGrid
+grid-length p n l x y =
+    length-to _ (suc n) (suc n) (λ i. length-to _ 1 (suc n) (λ j. refl) ∙ omega arith)
+
+few : (n k : ℕ) → suc n * suc n ≡ k → 4 ≤ k → k ≤ 16 → (1 ≤ n) × (n ≤ 3)
+few n k e h g =
+    by-lt n 1 (λ p. let q : suc n * suc n ≤ 1 * 1 = product-le (suc n) (suc n) 1 1 (omega arith) (omega arith) in absurd (omega arith))
+    (λ p. by-lt 3 n (λ q. let r : 5 * 5 ≤ suc n * suc n = product-le 5 5 (suc n) (suc n) (omega arith) (omega arith) in absurd (omega arith))
+    (λ q. (p, q)))
+
+pub few-boxes : (d : Drawing) (s : Shape) (r X Y : ℕ) → drawnMarks d ≡ tapMarks s r X Y → FewBoxes d
+unfolding FewBoxes drawnMarks
+few-boxes (Grid b) s r X Y e =
+    few (b .count) (countOf s)
+    (sym (grid-length (b .plane) (b .count) (b .side) margin margin) ∙ ap length e ∙ tap-marks-count s r X Y)
+    (count-few s .0)
+    (count-few s .1)
+few-boxes (Lines o) s r X Y e = tt

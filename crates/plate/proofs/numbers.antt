@@ -1,0 +1,4 @@
+-- Numbers that wrap, bounds of a plate's products, and laws of lists.
+pub mod Wraps
+pub mod Extents
+pub mod Lists

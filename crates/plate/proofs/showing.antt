@@ -1,0 +1,11 @@
+-- Show's sums, row by row, and the pictures that they give: how a loop writes rows of cells, where a picture's sums lie, one row
+-- of them, the lines of a slope from row to row, all sums one row further, the rising lines before the first row, both pictures
+-- side by side, and the image.
+pub mod Writes
+pub mod Starts
+pub mod RowSums
+pub mod SlopeLines
+pub mod NextRow
+pub mod RisingStart
+pub mod BothPictures
+pub mod Image

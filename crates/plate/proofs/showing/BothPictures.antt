@@ -1,0 +1,92 @@
+-- Both pictures side by side: what sums the one leaves the other.
+use mathlib.Core.Path.{_≡_, ap, _∙_}
+use mathlib.Core.List.{List, _++_}
+use Prim.Native.Nat.{ℕ, _+_, _*_, _-_, _<_, _≤_}
+use native.Mathlib.Omega.{arith}
+use lib.ListN.{length, getD, take, drop, length-take, length-drop, length-append, length-replicate, getD-replicate, List·getD-append}
+use Rattle.plate.specs.Calls.{zeros}
+use Rattle.plate.specs.code.Passes.{Picture, sumsEnd, matteAfter, startsAt, PictureIn, OnlySums, SummedTo, Summed}
+use Rattle.plate.specs.code.Showing.{BothIn, BothSummed}
+use Rattle.plate.proofs.showing.Starts.{in-place}
+
+-- a picture whose sums are not changed
+summed-on : (p : Picture) (m s s' : List ℕ) (y : ℕ) → 0 < p .columns → y ≤ p .high
+    → ((j : ℕ) → p .sums ≤ j → j < sumsEnd p → getD s' j 0 ≡ getD s j 0) → SummedTo p m s y → SummedTo p m s' y
+unfolding startsAt
+summed-on p m s s' y some low e old =
+    record {
+      third = λ x l. e _ (omega arith) (omega arith) ∙ old .third x l;
+      second = λ x l. e _ (omega arith) (omega arith) ∙ old .second x l;
+      falling-one =
+          record {
+            brings = λ r x f g l. let q = in-place p r (omega arith) in
+                e _ (omega (arith, q .falling-one)) (omega (arith, q .falling-one-end)) ∙ old .falling-one .brings r x f g l;
+            fresh = λ r f g. let q = in-place p r (omega arith) in
+                e _ (omega (arith, q .falling-one)) (omega (arith, q .falling-one-end)) ∙ old .falling-one .fresh r f g;
+          };
+      falling-two =
+          record {
+            brings = λ r x f g l. let q = in-place p r (omega arith) in
+                e _ (omega (arith, q .falling-two)) (omega (arith, q .falling-two-end)) ∙ old .falling-two .brings r x f g l;
+            fresh = λ r f g. let q = in-place p r (omega arith) in
+                e _ (omega (arith, q .falling-two)) (omega (arith, q .falling-two-end)) ∙ old .falling-two .fresh r f g;
+          };
+      rising-one =
+          record {
+            brings = λ r x f g l. let q = in-place p r (omega arith) in
+                e _ (omega (arith, q .rising-one)) (omega (arith, q .rising-one-end)) ∙ old .rising-one .brings r x f g l;
+            later = λ r f g. let q = in-place p r (omega arith) in
+                e _ (omega (arith, q .rising-one)) (omega (arith, q .rising-one-end)) ∙ old .rising-one .later r f g;
+          };
+      rising-two =
+          record {
+            brings = λ r x f g l. let q = in-place p r (omega arith) in
+                e _ (omega (arith, q .rising-two)) (omega (arith, q .rising-two-end)) ∙ old .rising-two .brings r x f g l;
+            later = λ r f g. let q = in-place p r (omega arith) in
+                e _ (omega (arith, q .rising-two)) (omega (arith, q .rising-two-end)) ∙ old .rising-two .later r f g;
+          };
+      finished = λ x l. e _ (omega arith) (omega arith) ∙ old .finished x l;
+    }
+
+module _ (light : Picture) (s m : List ℕ) (both : BothIn light s m) where
+  pub light-in : PictureIn light s m
+  light-in = omega arith
+
+  pub matte-in : (s1 : List ℕ) → length s1 ≡ length s → PictureIn (matteAfter light) s1 m
+  matte-in s1 e = omega arith
+
+  pub both-on : (s1 : List ℕ) → length s1 ≡ length s → BothIn light s1 m
+  both-on s1 e = omega arith
+
+-- where matte's sums start
+pub matte-sums : (light matte : Picture) → matte ≡ matteAfter light → matte .sums ≡ sumsEnd light
+matte-sums light matte e = ap (λ (p : Picture). p .sums) e
+
+-- light is summed, then matte
+pub matte-kept : (light : Picture) (m s s1 : List ℕ) (y : ℕ) → 0 < light .columns → y ≤ light .high → OnlySums light s s1
+    → SummedTo (matteAfter light) m s y → SummedTo (matteAfter light) m s1 y
+matte-kept light m s s1 y some low k = summed-on (matteAfter light) m s s1 y some low (λ j f g. k .after j f)
+
+pub both-summed : (light : Picture) (m s s1 s2 : List ℕ) (y : ℕ) → 0 < light .columns → y ≤ light .high
+    → Summed light m s s1 y → Summed (matteAfter light) m s1 s2 y → BothSummed light m s s2 y
+both-summed light m s s1 s2 y some low one two =
+    record {
+      same = two .only .same ∙ one .only .same;
+      to =
+          record {
+            light-to = summed-on light m s1 s2 y some low (λ j f g. two .only .before j g) (one .to);
+            matte-to = two .to;
+          };
+    }
+
+-- the first n cells are cleared
+module _ (s ys : List ℕ) (n : ℕ) (l : n ≤ length s) (e : ys ≡ zeros (length (take n s))) where
+  cut : length (take n s) ≡ n
+  cut = simp length-take (omega arith)
+
+  pub cleared-same : length (ys ++ drop n s) ≡ length s
+  cleared-same = rw (e, cut) (simp (length-append, length-replicate, length-drop) (omega arith))
+
+  pub cleared-at : (j : ℕ) → j < n → getD (ys ++ drop n s) j 0 ≡ 0
+  cleared-at j g =
+      rw (e, cut) (List·getD-append (zeros n) (drop n s) 0 j (omega (arith, length-replicate {A = ℕ} n 0)) ∙ getD-replicate n j 0 0 g)

@@ -1,0 +1,182 @@
+-- The rows of the image, and all of a show.
+use mathlib.Core.Path.{_≡_, refl, sym, ap, _∙_, fun-ext}
+use mathlib.Core.List.{List}
+use Prim.Native.Nat.{ℕ, zero, suc, _+_, _*_, _-_, _/_, _%_, _^_, _<_, _≤_}
+use native.Mathlib.Omega.{arith}
+use native.Mathlib.Nat.{mul-le-mul-right, mul-comm, div-add-mod', mod-lt, div-lt-iff-lt-mul}
+use native.Mathlib.Numerals.{add-one}
+use borrow.Author.Count.{below-more}
+use lib.ListN.{length, getD}
+use lib.Seq.{ext-getD}
+use Rattle.kernels.specs.Fixed.{planesEach, margin}
+use Rattle.kernels.specs.Choice.{within}
+use Rattle.kernels.specs.Sum.{sum, Plane, Planes, running, down, finish}
+use Rattle.kernels.specs.Rounding.{shownValue, shownMatte}
+use Rattle.plate.specs.Fixed.{scratchPlanes}
+use Rattle.plate.specs.Layout.{Size, wide, high, cell, places, columnOf, rowOf}
+use Rattle.plate.specs.Lent.{State, views}
+use Rattle.plate.specs.Refusal.{Accepted, showCheck}
+use Rattle.plate.specs.Calls.{zeros, listTo, stored, sumAt, shown, answerOf, showBy}
+use Rattle.plate.specs.code.Passes.{Picture, planesIn, slopeSums, downFrom, sumsEnd, marksEnd, matteAfter, SummedTo}
+use Rattle.plate.specs.code.Showing.{Image, lightPicture, BothIn, BothTo, BothSummed, RowShown, sumIn, ShownTo, ShowReady}
+use Rattle.plate.proofs.checks.Accepted.{show-accepted}
+use Rattle.plate.proofs.numbers.Lists.{length-listTo, getD-listTo}
+
+-- ONE ROW
+-- the sum down of the slope sums, to row y
+finish-is : (m : Planes) (x y : ℕ) → sum (slopeSums m x) (y + 1) ≡ finish m x y
+unfolding finish slopeSums down running
+finish-is m x y = rw (add-one y)
+
+finished-at : (p : Picture) (m s : List ℕ) (y x j : ℕ) → SummedTo p m s (y + 1) → x < p .columns → j ≡ downFrom p + x
+    → getD s j 0 ≡ finish (planesIn p m) x y % 2 ^ 64
+finished-at p m s y x j to l e =
+    rw e (to .finished x l ∙ ap (λ (v : ℕ). v % 2 ^ 64) (finish-is (planesIn p m) x y))
+
+module _ (light : Picture) (image : Image) (m s v v' o o' : List ℕ) (i l d : ℕ)
+    (columns : image .first + image .width ≡ light .columns) (both : BothTo light m s (image .first + i + 1))
+    (light-at : l + image .width ≡ sumsEnd light) (matte-at : d + image .width ≡ sumsEnd (matteAfter light))
+    (old : ShownTo light image m v o i) (new : RowShown s l d (i * image .width) (image .width) v v' o o') where
+  light-is : (x : ℕ) → x < image .width → getD s (l + x) 0 ≡ sumIn light image m x i
+  light-is x f = finished-at light m s (image .first + i) (image .first + x) (l + x) (both .light-to) (omega arith) (omega arith)
+
+  matte-is : (x : ℕ) → x < image .width → getD s (d + x) 0 ≡ sumIn (matteAfter light) image m x i
+  matte-is x f =
+      finished-at (matteAfter light) m s (image .first + i) (image .first + x) (d + x) (both .matte-to) (omega arith) (omega arith)
+
+  earlier : (x y : ℕ) → x < image .width → y < i → (c j : ℕ) → c < 1 → j < image .width
+      → y * image .width + x ≡ i * image .width + j → ⊥
+  earlier x y f g c j k q e = omega (arith, mul-le-mul-right (image .width) g)
+
+  pub shown-next : ShownTo light image m v' o' (i + 1)
+  shown-next =
+      record {
+        in-values = λ x y f. below-more (λ y. getD v' (y * image .width + x) 0
+            ≡ shownValue (sumIn light image m x y) (sumIn (matteAfter light) image m x y)) i
+            (λ y g. new .in-values .rest _ (earlier x y f g) ∙ old .in-values x y f g)
+            (new .in-values .done 0 x (omega arith) f ∙ rw (light-is x f, matte-is x f)) y;
+        in-mattes = λ x y f. below-more (λ y. getD o' (y * image .width + x) 0 ≡ shownMatte (sumIn (matteAfter light) image m x y)) i
+            (λ y g. new .in-mattes .rest _ (earlier x y f g) ∙ old .in-mattes x y f g)
+            (new .in-mattes .done 0 x (omega arith) f ∙ rw (matte-is x f)) y;
+      }
+
+shown-start : (light : Picture) (image : Image) (m v o : List ℕ) → ShownTo light image m v o 0
+shown-start light image m v o =
+    record { in-values = λ x y f g. absurd (omega arith); in-mattes = λ x y f g. absurd (omega arith) }
+
+-- rows of the image are shown, and the sums are ready for the next
+pub record ShowingAt (light : Picture) (image : Image) (m s₀ s v₀ v o₀ o : List ℕ) (row : ℕ) : Type 0 where
+  pub same-values : length v ≡ length v₀
+  pub same-mattes : length o ≡ length o₀
+  pub both : BothSummed light m s₀ s (image .first + row)
+  pub done : ShownTo light image m v o row
+
+pub showing-start : (light : Picture) (image : Image) (m s v o : List ℕ) → BothTo light m s (image .first)
+    → ShowingAt light image m s s v v o o 0
+showing-start light image m s v o to =
+    let e : image .first + 0 ≡ image .first = omega arith in
+    record { same-values = refl; same-mattes = refl; both = record { same = refl; to = rw e to }; done = shown-start light image m v o }
+
+-- THE WHOLE
+-- the sums of both pictures fit into the scratch
+sums-fit : (n w h : ℕ) → n + margin ≤ w → 7 ≤ w → 7 ≤ h
+    → sumsEnd (matteAfter (record { columns = n; wide = w; high = h; sums = 0; marks = 0 })) ≤ scratchPlanes * (w * h)
+sums-fit n w h a b c =
+    let e : w ≡ 7 + (w - 7) = omega arith in
+    let f : h ≡ 7 + (h - 7) = omega arith in
+    many (w - 7) (h - 7) n w h e f a
+  where
+    many : (i j n w h : ℕ) → w ≡ 7 + i → h ≡ 7 + j → n + margin ≤ w
+        → sumsEnd (matteAfter (record { columns = n; wide = w; high = h; sums = 0; marks = 0 })) ≤ scratchPlanes * (w * h)
+    many i j n w h e f a = rw (e, f) (omega arith)
+
+pub ready-both : (z : Size) (light : Picture) (m s v o : List ℕ) → light ≡ lightPicture z → ShowReady z m s v o → BothIn light s m
+ready-both z light m s v o e r =
+    rw e (record {
+      some = omega arith;
+      narrow = omega arith;
+      tall = omega arith;
+      sums-in = omega (arith, sums-fit (z .reach + margin + z .width) (wide z) (high z) (omega arith) (omega arith) (omega arith), r .scratch-is);
+      marks-in = omega (arith, r .planes-are);
+    })
+
+-- the planes of a picture, from plane p on
+stored-is : (z : Size) (picture : Picture) (m : List ℕ) (p : ℕ) → picture .wide ≡ wide z → picture .high ≡ high z
+    → picture .marks ≡ p * (wide z * high z) → stored z m p ≡ planesIn picture m
+unfolding stored planesIn
+stored-is z picture m p e f g =
+    fun-ext (λ d. fun-ext (λ x. fun-ext (λ y. rw (e, f, place d x y))))
+  where
+    place : (d x y : ℕ) → picture .marks + d * (wide z * high z) + (y * wide z + x) ≡ cell z (p + d) x y
+    place d x y = rw g (omega arith)
+
+some-width : (W H j : ℕ) → j < W * H → 0 < W
+some-width zero H j l = absurd (omega arith)
+some-width (suc W) H j l = omega arith
+
+-- a list is what is shown at each place
+shown-list : (v : List ℕ) (W H : ℕ) (F : Plane) (f : ℕ → ℕ) → length v ≡ W * H
+    → ((x y : ℕ) → x < W → y < H → getD v (y * W + x) 0 ≡ F x y)
+    → ((j : ℕ) → F (j % W) (j / W) ≡ f j)
+    → v ≡ listTo f (W * H)
+shown-list v W H F f e cells same =
+    ext-getD 0 v (listTo f (W * H)) (e ∙ sym (length-listTo f (W * H)))
+    (λ j l.
+    let g : j < W * H = omega arith in
+    let g' : j < H * W = omega (arith, mul-comm W H) in
+    let q = some-width W H j g in
+    (rw (div-add-mod' j W) at (cells (j % W) (j / W) (mod-lt j q) (div-lt-iff-lt-mul q .1 g')))
+    ∙ same j
+    ∙ sym (getD-listTo f (W * H) j 0 g))
+
+-- the image of a plate
+abbrev pub imageOf : Size → Image
+imageOf z = record { first = z .reach + margin; width = z .width; height = z .height }
+
+module _ (state : State) (m s₀ s s' v₀ v o₀ o : List ℕ) (r : ShowReady (state .size) m s₀ v₀ o₀)
+    (same-s : length s ≡ length s₀) (same-v : length v ≡ length v₀) (same-o : length o ≡ length o₀)
+    (all : ShownTo (lightPicture (state .size)) (imageOf (state .size)) m v o (state .size .height)) (clear : s' ≡ zeros (length s)) where
+  sum-is : (picture : Picture) (p : ℕ) → picture .wide ≡ wide (state .size) → picture .high ≡ high (state .size)
+      → picture .marks ≡ p * (wide (state .size) * high (state .size))
+      → (j : ℕ) → sumIn picture (imageOf (state .size)) m (j % state .size .width) (j / state .size .width) ≡ sumAt (state .size) m p j
+  unfolding sumAt
+  sum-is picture p a b c j =
+      let e : state .size .reach + margin + j % state .size .width ≡ columnOf (state .size) j = omega arith in
+      let f : state .size .reach + margin + j / state .size .width ≡ rowOf (state .size) j = omega arith in
+      rw (e, f, stored-is (state .size) picture m p a b c)
+
+  light-sum : (j : ℕ) → sumIn (lightPicture (state .size)) (imageOf (state .size)) m (j % state .size .width) (j / state .size .width)
+      ≡ sumAt (state .size) m 0 j
+  light-sum = sum-is (lightPicture (state .size)) 0 refl refl (omega arith)
+
+  matte-sum : (j : ℕ)
+      → sumIn (matteAfter (lightPicture (state .size))) (imageOf (state .size)) m (j % state .size .width) (j / state .size .width)
+      ≡ sumAt (state .size) m planesEach j
+  matte-sum = sum-is (matteAfter (lightPicture (state .size))) planesEach refl refl (omega arith)
+
+  values-are : v ≡ listTo (λ i. shownValue (sumAt (state .size) m 0 i) (sumAt (state .size) m planesEach i)) (places (state .size))
+  values-are =
+      shown-list v (state .size .width) (state .size .height) _ _ (same-v ∙ r .values-are) (all .in-values)
+      (λ j. rw (light-sum j, matte-sum j))
+
+  mattes-are : o ≡ listTo (λ i. shownMatte (sumAt (state .size) m planesEach i)) (places (state .size))
+  mattes-are =
+      shown-list o (state .size .width) (state .size .height) _ _ (same-o ∙ r .mattes-are) (all .in-mattes) (λ j. rw (matte-sum j))
+
+  pub all-shown : shown (answerOf Accepted 0 state) s' v o ≡ showBy Accepted state m (views s₀ v₀ o₀)
+  unfolding showBy
+  all-shown = rw (clear, same-s, values-are, mattes-are)
+
+-- what an accepted check tells
+pub show-ready : (state : State) (m s v o : List ℕ) → showCheck state (length m) (length s) (length v) (length o) ≡ Accepted
+    → ShowReady (state .size) m s v o
+show-ready state m s v o e =
+    let a = show-accepted state (length m) (length s) (length v) (length o) e in
+    let law = a .lawful in
+    record {
+      lawful = law;
+      planes-are = a .planes-are;
+      scratch-is = a .scratch-are;
+      values-are = a .values-are;
+      mattes-are = a .mattes-are;
+    }

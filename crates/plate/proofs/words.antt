@@ -1,0 +1,3 @@
+-- The pixel word and the log entry: what is packed is read back.
+pub mod Fields
+pub mod Words

@@ -1,0 +1,50 @@
+-- What calls are given and lent.
+use mathlib.Core.List.{List}
+use Prim.Native.Nat.{ℕ}
+use lib.ListN.{length}
+use Rattle.plate.specs.Layout.{Size}
+pub use Rattle.plate.specs.declared.state.State.{State}
+pub use Rattle.plate.specs.declared.lent.Ask.{Ask}
+pub use Rattle.plate.specs.declared.lent.Sized.{Sized}
+
+-- "The state is W, H, R and the log count."
+abbrev pub stateOf : Size → ℕ → State
+stateOf z n = record { size = z; count = n }
+
+-- planes, pixels and log
+pub record Lent : Type 0 where
+  pub planes : List ℕ
+  pub pixels : List ℕ
+  pub log : List ℕ
+
+abbrev pub lent : List ℕ → List ℕ → List ℕ → Lent
+lent planes pixels log = record { planes = planes; pixels = pixels; log = log }
+
+-- the lengths of what is lent
+abbrev pub sized : ℕ → ℕ → ℕ → Sized
+sized planes pixels log = record { planes = planes; pixels = pixels; log = log }
+
+abbrev pub sizedAs : Lent → Sized
+sizedAs l = sized (length (l .planes)) (length (l .pixels)) (length (l .log))
+
+-- a put's arguments
+abbrev pub ask : ℕ → ℕ → ℕ → ℕ → ℕ → ℕ → Ask
+ask x y v a s r = record { x = x; y = y; value = v; opacity = a; shape = s; radius = r }
+
+-- fill's three inputs
+pub record Inputs : Type 0 where
+  pub values : List ℕ
+  pub opacities : List ℕ
+  pub depths : List ℕ
+
+abbrev pub inputs : List ℕ → List ℕ → List ℕ → Inputs
+inputs values opacities depths = record { values = values; opacities = opacities; depths = depths }
+
+-- show's scratch and pictures
+pub record Views : Type 0 where
+  pub scratch : List ℕ
+  pub values : List ℕ
+  pub mattes : List ℕ
+
+abbrev pub views : List ℕ → List ℕ → List ℕ → Views
+views scratch values mattes = record { scratch = scratch; values = values; mattes = mattes }

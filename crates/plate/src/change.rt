@@ -1,0 +1,115 @@
+// What a put or an undo is to change, read before anything is touched.
+use crate::check::check_put;
+use crate::check::check_undo;
+use crate::lent::Ask;
+use crate::lent::Sized;
+use crate::state::Outcome;
+use crate::state::Refusal;
+use crate::state::State;
+use crate::word::EntryRead;
+use crate::word::Pixel;
+use crate::word::Unpacked;
+use crate::word::unpack;
+use crate::word::unpack_entry;
+use kernels::ShapeRead;
+ghost use mathlib.Core.Path.{_≡_};
+ghost use lib.ListN.{length};
+ghost use Rattle.plate.specs.Lent.{sized};
+ghost use Rattle.plate.specs.Change.{putRead, undoRead};
+
+// A place with its column and row, the pixel that stands there, and the one that is to come.
+pub struct Change {
+    pub place: usize,
+    pub x: usize,
+    pub y: usize,
+    pub old: Pixel,
+    pub new: Pixel,
+}
+
+// What a call is to change, or why it is refused.
+pub enum ChangeRead {
+    ToChange(Change),
+    NoChange(Refusal),
+}
+
+// What a put is to change, by the lengths of planes and log and by the pixels. The shape's number is known once the check has
+// passed.
+pub(crate) fn read_put(
+    state: State,
+    ask: Ask,
+    planes: usize,
+    pixels: &[u64],
+    log: usize,
+) -> ChangeRead
+    ensures { λ r. ⌜ r ≡ putRead state ask (sized planes (length (now (pixels .entry))) log) (now (pixels .entry)) ⌝ }
+{
+    let lengths = Sized {
+        planes: planes,
+        pixels: pixels.len(),
+        log: log,
+    };
+    let check = check_put(state, ask, lengths);
+    if let Outcome::Refused(why) = check {
+        return ChangeRead::NoChange(why);
+    }
+    let x = ask.x;
+    let y = ask.y;
+    let width = state.size.width;
+    let place = y * width + x;
+    let Unpacked::Whole(old) = unpack(pixels[place], state.size.reach) else {
+        return ChangeRead::NoChange(Refusal::StoredWord);
+    };
+    let ShapeRead::Known(shape) = kernels::shape::shape_of(ask.shape) else {
+        return ChangeRead::NoChange(Refusal::Shape);
+    };
+    ChangeRead::ToChange(Change {
+        place: place,
+        x: x,
+        y: y,
+        old: old,
+        new: Pixel {
+            value: ask.value,
+            opacity: ask.opacity,
+            shape: shape,
+            radius: ask.radius,
+        },
+    })
+}
+
+// What an undo is to change, by the length of the planes, the pixels and the log: the pixel of the last entry is to come back to
+// its place.
+pub(crate) fn read_undo(state: State, planes: usize, pixels: &[u64], log: &[u64]) -> ChangeRead
+    ensures { λ r. ⌜ r ≡ undoRead state (sized planes (length (now (pixels .entry))) (length (now (log .entry)))) (now (pixels .entry)) (now (log .entry)) ⌝ }
+{
+    let lengths = Sized {
+        planes: planes,
+        pixels: pixels.len(),
+        log: log.len(),
+    };
+    let check = check_undo(state, lengths);
+    if let Outcome::Refused(why) = check {
+        return ChangeRead::NoChange(why);
+    }
+    let size = state.size;
+    let count = state.count;
+    let last = count - 1;
+    let word = log[last];
+    let EntryRead::Logged(entry) = unpack_entry(word, size) else {
+        return ChangeRead::NoChange(Refusal::StoredWord);
+    };
+    let place = entry.place;
+    let Unpacked::Whole(old) = unpack(pixels[place], size.reach) else {
+        return ChangeRead::NoChange(Refusal::StoredWord);
+    };
+    let new = entry.pixel;
+    let width = size.width;
+    let x = place % width;
+    let y = place / width;
+    ChangeRead::ToChange(Change {
+        place: place,
+        x: x,
+        y: y,
+        old: old,
+        new: new,
+    })
+}

@@ -1,0 +1,18 @@
+// What calls are given, and the lengths of what they are lent.
+
+// What a put asks for: a place, and a pixel with its shape by number.
+pub struct Ask {
+    pub x: usize,
+    pub y: usize,
+    pub value: u16,
+    pub opacity: u8,
+    pub shape: u8,
+    pub radius: u8,
+}
+
+// The lengths of planes, pixels and log.
+pub struct Sized {
+    pub planes: usize,
+    pub pixels: usize,
+    pub log: usize,
+}

@@ -1,0 +1,2 @@
+-- A machine fed byte by byte.
+pub mod Feeding

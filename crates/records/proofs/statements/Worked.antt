@@ -1,0 +1,49 @@
+-- The paper's worked example: the text that the definitions give its input, computed, and so the machine's.
+use mathlib.Core.Path.{_≡_, refl, _∙_}
+use mathlib.Core.List.{List, [], _∷_}
+use Prim.Native.Nat.{ℕ}
+use lib.Dec.{T, ltb, lit<}
+use Rattle.kernels.specs.Choice.{within}
+use Rattle.kernels.specs.Sum.{sum}
+use Rattle.kernels.specs.Tap.{tap, area, share, weight}
+use Rattle.kernels.specs.Rounding.{nearest, shownValue, shownMatte}
+use Rattle.plate.specs.Refusal.{refuseIf, sizesCheck, placeCheck, kernelCheck, askCheck}
+use Rattle.plate.specs.Calls.{listTo}
+use Rattle.plate.specs.Plain.{plainSum, plainValues, plainMattes}
+use Rattle.plate.specs.Notebook.{bookPutBy, bookPut, bookUndoOf, bookUndo, bookShowBy}
+use Rattle.plate.specs.Lists.{Byte, codes}
+use Rattle.records.specs.Text.{digitsBy, decimal, doneLine, headLine, cellText, rowText, rowsText, showText}
+use Rattle.records.specs.Record.{recordOf, itemsBy, itemsOf}
+use Rattle.records.specs.Run.{opens, answerText, pictureText, reportText, act, textFrom, text}
+use Rattle.records.specs.Machine.{machineText}
+use Rattle.records.proofs.statements.EndToEnd.{end-to-end}
+
+abbrev byte : (n : ℕ) → T (ltb n 256) → Byte
+byte n small = record { code = n; small = lit< small }
+
+-- "01 03 00 01 00 01 02 01 00 00 00 64 00 FF 00 01 02 00 00 00 00 28 00 FF 00 00 04 03 04"
+abbrev pub input : List Byte
+input =
+    byte 1 tt ∷ byte 3 tt ∷ byte 0 tt ∷ byte 1 tt ∷ byte 0 tt ∷ byte 1 tt ∷
+    byte 2 tt ∷ byte 1 tt ∷ byte 0 tt ∷ byte 0 tt ∷ byte 0 tt ∷ byte 100 tt ∷ byte 0 tt ∷ byte 255 tt ∷ byte 0 tt ∷ byte 1 tt ∷
+    byte 2 tt ∷ byte 0 tt ∷ byte 0 tt ∷ byte 0 tt ∷ byte 0 tt ∷ byte 40 tt ∷ byte 0 tt ∷ byte 255 tt ∷ byte 0 tt ∷ byte 0 tt ∷
+    byte 4 tt ∷ byte 3 tt ∷ byte 4 tt ∷
+    []
+
+-- the five lines that the paper prints
+abbrev pub printed : List ℕ
+printed =
+    112 ∷ 108 ∷ 97 ∷ 116 ∷ 101 ∷ 32 ∷ 51 ∷ 32 ∷ 49 ∷ 10 ∷
+    52 ∷ 54 ∷ 47 ∷ 50 ∷ 53 ∷ 53 ∷ 32 ∷ 49 ∷ 48 ∷ 48 ∷ 47 ∷ 50 ∷ 56 ∷ 32 ∷ 49 ∷ 48 ∷ 48 ∷ 47 ∷ 50 ∷ 56 ∷ 10 ∷
+    112 ∷ 108 ∷ 97 ∷ 116 ∷ 101 ∷ 32 ∷ 51 ∷ 32 ∷ 49 ∷ 10 ∷
+    49 ∷ 48 ∷ 48 ∷ 47 ∷ 50 ∷ 56 ∷ 32 ∷ 49 ∷ 48 ∷ 48 ∷ 47 ∷ 50 ∷ 56 ∷ 32 ∷ 49 ∷ 48 ∷ 48 ∷ 47 ∷ 50 ∷ 56 ∷ 10 ∷
+    100 ∷ 111 ∷ 110 ∷ 101 ∷ 32 ∷ 54 ∷ 10 ∷
+    []
+
+pub worked-text : text (codes input) ≡ printed
+unfolding text textFrom act opens itemsOf itemsBy recordOf sizesCheck refuseIf bookPut bookPutBy bookUndo bookUndoOf bookShowBy askCheck placeCheck kernelCheck reportText answerText pictureText showText headLine rowsText rowText cellText doneLine decimal digitsBy plainValues plainMattes plainSum listTo weight share area tap sum within shownValue shownMatte nearest
+worked-text = refl
+
+-- so the machine writes it too
+pub worked-machine : machineText (codes input) ≡ printed
+worked-machine = end-to-end input (lit< tt) ∙ worked-text

@@ -1,0 +1,5 @@
+-- What only contracts inside the crate use: no statement about a public call needs it.
+pub mod Borrows
+pub mod Written
+pub mod Room
+pub mod Done

@@ -1,0 +1,146 @@
+// What a record asks of the plate. There is one path to it: the call is lent the front of planes and pixels.
+use crate::fixed::CELLS;
+use crate::fixed::NO_SHAPE;
+use crate::record::Shapeless;
+use crate::record::Stroke;
+use plate::Answer;
+use plate::State;
+use plate::fixed::BORDER;
+use plate::fixed::PLANES;
+use plate::lent::Ask;
+use plate::size::Size;
+ghost use mathlib.Core.Path.{_≡_};
+ghost use Rattle.plate.specs.Calls.{left};
+ghost use Rattle.records.specs.Record.{strokeAsk, shapelessAsk};
+ghost use Rattle.records.specs.Machine.{cellsOf, placesOf, putRequest, requestSize, requestCall, requested};
+ghost use Rattle.records.specs.code.Borrows.{plateAtEntry};
+ghost use Rattle.records.specs.code.Room.{PlateRoom};
+
+// A put: the plate's state, and what is asked of it.
+pub(crate) struct Strike {
+    pub state: State,
+    pub ask: Ask,
+}
+
+pub(crate) enum Request {
+    ToOpen(Size),
+    ToPut(Strike),
+    ToUndo(State),
+}
+
+// The cells of a padded plane and the places of a plate; none where the cells are more than there is room for.
+pub(crate) struct Lends {
+    pub cells: usize,
+    pub places: usize,
+}
+
+pub(crate) fn room(size: Size) -> Lends
+    ensures { λ r. ⌜ (r .cells ≡ cellsOf size) × (r .places ≡ placesOf size) ⌝ }
+{
+    let none = Lends {
+        cells: 0,
+        places: 0,
+    };
+    if CELLS < size.width {
+        return none;
+    }
+    if CELLS < size.height {
+        return none;
+    }
+    if CELLS < size.reach {
+        return none;
+    }
+    let cells = (size.width + 2 * size.reach + BORDER) * (size.height + 2 * size.reach + BORDER);
+    if CELLS < cells {
+        return none;
+    }
+    Lends {
+        cells: cells,
+        places: size.width * size.height,
+    }
+}
+
+// A put of a record that names a shape.
+pub(crate) fn stroke_request(state: State, stroke: Stroke) -> Request
+    ensures { λ r. ⌜ r ≡ putRequest state (strokeAsk stroke) ⌝ }
+{
+    let pixel = stroke.pixel;
+    let shape = pixel.shape;
+    let number = kernels::shape::number(shape);
+    Request::ToPut(Strike {
+        state: state,
+        ask: Ask {
+            x: stroke.x,
+            y: stroke.y,
+            value: pixel.value,
+            opacity: pixel.opacity,
+            shape: number,
+            radius: pixel.radius,
+        },
+    })
+}
+
+// A put of a record that names none: its number is above all shapes, so that the place and the value are looked at first.
+pub(crate) fn shapeless_request(state: State, put: Shapeless) -> Request
+    ensures { λ r. ⌜ r ≡ putRequest state (shapelessAsk put) ⌝ }
+{
+    Request::ToPut(Strike {
+        state: state,
+        ask: Ask {
+            x: put.x,
+            y: put.y,
+            value: put.value,
+            opacity: 0,
+            shape: NO_SHAPE,
+            radius: 0,
+        },
+    })
+}
+
+// The sizes of the plate that is asked.
+fn size_of(request: Request) -> Size
+    ensures { λ r. ⌜ r ≡ requestSize request ⌝ }
+{
+    match request {
+        Request::ToOpen(size) => size,
+        Request::ToPut(strike) => strike.state.size,
+        Request::ToUndo(state) => state.size,
+    }
+}
+
+// The call of the plate, on just what it wants.
+fn call(request: Request, planes: &mut [u64], pixels: &mut [u64], log: &mut [u64]) -> Answer
+    ensures { λ r. ⌜ left r (now (planes .exit)) (now (pixels .exit)) (now (log .exit)) ≡ requestCall request (plateAtEntry planes pixels log) ⌝ }
+{
+    match request {
+        Request::ToOpen(size) => plate::open::open(size.width, size.height, size.reach, planes, pixels, log),
+        Request::ToPut(strike) => {
+            let ask = strike.ask;
+            let state = strike.state;
+            plate::put::put(
+                state,
+                ask.x,
+                ask.y,
+                ask.value,
+                ask.opacity,
+                ask.shape,
+                ask.radius,
+                planes,
+                pixels,
+                log,
+            )
+        }
+        Request::ToUndo(state) => plate::undo::undo(state, planes, pixels, log),
+    }
+}
+
+// The same on the front of the buffers.
+pub(crate) fn serve(request: Request, planes: &mut [u64], pixels: &mut [u64], log: &mut [u64]) -> Answer
+    requires { ⌜ PlateRoom (now planes) (now pixels) ⌝ }
+    ensures { λ r. ⌜ left r (now (planes .exit)) (now (pixels .exit)) (now (log .exit)) ≡ requested request (plateAtEntry planes pixels log) ⌝ }
+{
+    let lends = room(size_of(request));
+    let cells = PLANES * lends.cells;
+    let places = lends.places;
+    call(request, &mut planes[..cells], &mut pixels[..places], log)
+}
