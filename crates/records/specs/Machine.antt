@@ -3,7 +3,7 @@
 use mathlib.Core.Path.{_≡_}
 use mathlib.Core.Bool.{Bool, true, false}
 use mathlib.Core.List.{List, [], _∷_, _++_}
-use Prim.Native.Nat.{ℕ, _+_, _*_, _-_, _^_, _≤_, _<_}
+use Prim.Native.Nat.{ℕ, _+_, _*_, _-_, _^_, _<_}
 use denote.Ref.{RefT, now}
 use denote.Triple.Both.{Both}
 use lib.Dec.{ltb, eqb}
@@ -24,7 +24,7 @@ use Rattle.plate.specs.Lists.{Byte, codes}
 use Rattle.records.specs.Fixed.{cellsTop, planesRoom, scratchRoom, logRoom, longestBody, textRoom}
 use Rattle.records.specs.Text.{doneLine, showText, withText}
 use Rattle.records.specs.Record.{Record, Open, Put, NoShape, Undo, Show, Stop, Sizes, Kind, Body, Order, Cells, BodyLength, Bytes, NoKind, bodyLength, recordOf, strokeAsk, shapelessAsk}
-use Rattle.records.specs.Run.{answerText, stopText, text}
+use Rattle.records.specs.Run.{answerText, stopText, paperText}
 pub use Rattle.records.specs.declared.request.Strike.{Strike}
 pub use Rattle.records.specs.declared.request.Request.{Request}
 pub use Rattle.records.specs.declared.request.Request.the-variants.{ToOpen, ToPut, ToUndo}
@@ -192,12 +192,12 @@ recordOn k (Opened s) Show b = showOn k s b
 
 -- BYTES
 -- what comes of a machine: the machine after it, the buffers and the text
-pub record Fed : Type 0 where
+pub record Progress : Type 0 where
   pub machine : Machine
   pub buffers : Buffers
   pub text : List ℕ
 
-abbrev pub fed : Machine → Buffers → List ℕ → Fed
+abbrev pub fed : Machine → Buffers → List ℕ → Progress
 fed m b t = record { machine = m; buffers = b; text = t }
 
 abbrev pub machine : Stage → ℕ → ℕ → ℕ → List ℕ → ℕ → Machine
@@ -208,11 +208,11 @@ machine s kind held whole body count =
 abbrev pub standing : Machine → Stage → Machine
 standing m s = machine s (m .kind) (m .held) (m .whole) (m .body) (m .count)
 
-abbrev pub doneBy : Machine → Did → Fed
+abbrev pub doneBy : Machine → Did → Progress
 doneBy m d = fed (standing m (d .stage)) (d .buffers) (d .text)
 
 -- what no run comes to ends without a word: a body longer than the longest, or more than 2^64 - 1 records
-abbrev pub lost : Machine → Buffers → Fed
+abbrev pub lost : Machine → Buffers → Progress
 lost m b = fed (standing m Ended) b []
 
 -- a byte taken in, and what there is to do next
@@ -245,13 +245,13 @@ unfoldable pub takenOf : Machine → ℕ → Taken
 takenOf m x = pick (ltb (m .held) (m .whole)) (carriedOf m x) (begunOf m x)
 
 -- and what is done
-unfoldable pub fedBy : Next → Machine → Buffers → Fed
+unfoldable pub fedBy : Next → Machine → Buffers → Progress
 fedBy Wait m b = fed m b []
 fedBy Lose m b = lost m b
 fedBy Refuse m b = doneBy m (did (stoppedBy (m .count) Kind) b)
 fedBy Do m b = doneBy m (recordOn (m .count) (m .stage) (recordOf (m .kind) (m .body)) b)
 
-abbrev pub fedTaken : Taken → Buffers → Fed
+abbrev pub fedTaken : Taken → Buffers → Progress
 fedTaken t b = fedBy (t .next) (t .machine) b
 
 -- whether a run has stopped
@@ -261,7 +261,7 @@ endedAt (Opened s) = false
 endedAt Ended = true
 
 -- what a byte makes of a machine; no byte after a stop changes anything
-unfoldable pub feedOf : Machine → ℕ → Buffers → Fed
+unfoldable pub feedOf : Machine → ℕ → Buffers → Progress
 feedOf m x b = pick (endedAt (m .stage)) (fed m b []) (fedTaken (takenOf m x) b)
 
 -- the text at the end of the input. 14: "body cut short"; "Input that ends after a whole record, or is empty, prints `done` and
@@ -283,7 +283,7 @@ pub record Handed : Type 0 where
 abbrev pub handed : Machine → ℕ → Buffers → List ℕ → Handed
 handed m n b out = record { machine = m; buffers = b; out = out; written = n }
 
-abbrev pub handOut : Fed → List ℕ → Handed
+abbrev pub handOut : Progress → List ℕ → Handed
 handOut f out = handed (f .machine) (length (f .text)) (f .buffers) (withText out 0 (f .text))
 
 -- a call that is lent less than the room for its text loses the run
@@ -314,15 +314,15 @@ abbrev pub zeroed : Buffers
 zeroed = buffers (zeros planesRoom) (zeros cellsTop) (zeros logRoom) (zeros scratchRoom) (zeros cellsTop) (zeros cellsTop)
 
 -- one byte after another, and the text so far
-abbrev pub fedThen : List ℕ → Fed → Fed
+abbrev pub fedThen : List ℕ → Progress → Progress
 fedThen t f = fed (f .machine) (f .buffers) (t ++ f .text)
 
-unfoldable pub feedAll : Fed → List ℕ → Fed
+unfoldable pub feedAll : Progress → List ℕ → Progress
 feedAll f [] = f
 feedAll f (x ∷ xs) = feedAll (fedThen (f .text) (feedOf (f .machine) x (f .buffers))) xs
 
 -- the text of what has been fed, and the end
-abbrev pub ending : Fed → List ℕ
+abbrev pub ending : Progress → List ℕ
 ending f = f .text ++ finishOf (f .machine)
 
 -- the text of an input
@@ -332,10 +332,10 @@ machineText input = ending (feedAll (fed fresh zeroed []) input)
 -- FROM BYTES TO TEXT: for every input, the machine writes the text of the paper's rules applied to the notebook's answers. The
 -- machine counts its records in 64 bits, so the input is shorter than 2^64 bytes.
 abbrev pub EndToEnd : Type 0
-EndToEnd = (input : List Byte) → length input < 2 ^ 64 → machineText (codes input) ≡ text (codes input)
+EndToEnd = (input : List Byte) → length input < 2 ^ 64 → machineText (codes input) ≡ paperText (codes input)
 
 -- an input that comes in parts
-unfoldable pub feedParts : Fed → List (List ℕ) → Fed
+unfoldable pub feedParts : Progress → List (List ℕ) → Progress
 feedParts f [] = f
 feedParts f (part ∷ parts) = feedParts (feedAll f part) parts
 

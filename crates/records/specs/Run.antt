@@ -79,6 +79,6 @@ textFrom k d over = doneLine k
 textFrom k d (broken s) = stopText (k + 1) s
 textFrom k d (next r items) = thenText (k + 1) (act (k + 1) d r) (λ e. textFrom (k + 1) e items)
 
--- the text of an input
-unfoldable pub text : List ℕ → List ℕ
-text input = textFrom 0 closed (itemsOf input)
+-- the text of an input, by the paper
+unfoldable pub paperText : List ℕ → List ℕ
+paperText input = textFrom 0 closed (itemsOf input)

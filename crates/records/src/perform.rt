@@ -15,14 +15,14 @@ use plate::fixed::PLANES;
 use plate::fixed::SCRATCH_PLANES;
 use plate::size::Size;
 ghost use mathlib.Core.Path.{_≡_};
-ghost use Prim.Native.Nat.{_+_, _*_, _≤_};
+ghost use Prim.Native.Nat.{_*_, _≤_};
 ghost use lib.ListN.{length};
 ghost use Rattle.plate.specs.Refusal.{outcomeNumber};
 ghost use Rattle.plate.specs.Calls.{showCall};
 ghost use Rattle.records.specs.Fixed.{textRoom};
 ghost use Rattle.records.specs.Machine.{atEntry, atExit, Closed, Opened, ToOpen, stoppedBy, openedBy, answeredBy, shownBy, showOn, recordOn};
 ghost use Rattle.records.specs.code.Borrows.{plateAtEntry, plateAtExit, viewsAtEntry, viewsAtExit};
-ghost use Rattle.records.specs.code.Room.{lineRoom, rowsRoom, CellsRoom, PlateRoom, PictureRoom, PartRoom, AllRoom};
+ghost use Rattle.records.specs.code.Room.{ShowRoom, PlateRoom, PictureRoom, PartRoom, AllRoom};
 ghost use Rattle.records.specs.code.Done.{doneWith, doneOf, Says, Served, ShowDone, PlateDone, ViewsDone};
 
 // Where a run stands: no plate yet, a plate, or the end after a stop.
@@ -134,16 +134,9 @@ fn open_on(
 }
 
 // The answer to a show, with the pictures that it left.
-fn shown(
-    a: Answer,
-    size: Size,
-    k: u64,
-    values: &[u16],
-    mattes: &[u8],
-    out: &mut [u8],
-) -> Done
+fn shown(a: Answer, size: Size, k: u64, values: &[u16], mattes: &[u8], out: &mut [u8]) -> Done
     requires { ⌜ textRoom ≤ length (now out) ⌝ }
-    requires { ⌜ (outcomeNumber (a .outcome) ≡ 0 → CellsRoom (lineRoom + rowsRoom (size .width) (size .height)) 0 (size .height * size .width) (now out) (now values) (now mattes)) ⌝ }
+    requires { ⌜ (outcomeNumber (a .outcome) ≡ 0 → ShowRoom (size .width) (size .height) (now out) (now values) (now mattes)) ⌝ }
     ensures { λ r. ⌜ Says (shownBy k size a (now (values .entry)) (now (mattes .entry))) r (now (out .entry)) (now (out .exit)) ⌝ }
 {
     let outcome = a.outcome;
@@ -243,8 +236,22 @@ fn on_open(
 {
     match item {
         Record::Open(_) => stop(Stop::Order, k, out),
-        Record::Put(stroke) => change_on(stroke_request(state, stroke), k, planes, pixels, log, out),
-        Record::NoShape(put) => change_on(shapeless_request(state, put), k, planes, pixels, log, out),
+        Record::Put(stroke) => change_on(
+            stroke_request(state, stroke),
+            k,
+            planes,
+            pixels,
+            log,
+            out,
+        ),
+        Record::NoShape(put) => change_on(
+            shapeless_request(state, put),
+            k,
+            planes,
+            pixels,
+            log,
+            out,
+        ),
         Record::Undo => change_on(Request::ToUndo(state), k, planes, pixels, log, out),
         Record::Show => show_on(state, k, planes, scratch, values, mattes, out),
     }

@@ -113,7 +113,14 @@ fn call(request: Request, planes: &mut [u64], pixels: &mut [u64], log: &mut [u64
     ensures { λ r. ⌜ left r (now (planes .exit)) (now (pixels .exit)) (now (log .exit)) ≡ requestCall request (plateAtEntry planes pixels log) ⌝ }
 {
     match request {
-        Request::ToOpen(size) => plate::open::open(size.width, size.height, size.reach, planes, pixels, log),
+        Request::ToOpen(size) => plate::open::open(
+            size.width,
+            size.height,
+            size.reach,
+            planes,
+            pixels,
+            log,
+        ),
         Request::ToPut(strike) => {
             let ask = strike.ask;
             let state = strike.state;
@@ -135,7 +142,12 @@ fn call(request: Request, planes: &mut [u64], pixels: &mut [u64], log: &mut [u64
 }
 
 // The same on the front of the buffers.
-pub(crate) fn serve(request: Request, planes: &mut [u64], pixels: &mut [u64], log: &mut [u64]) -> Answer
+pub(crate) fn serve(
+    request: Request,
+    planes: &mut [u64],
+    pixels: &mut [u64],
+    log: &mut [u64],
+) -> Answer
     requires { ⌜ PlateRoom (now planes) (now pixels) ⌝ }
     ensures { λ r. ⌜ left r (now (planes .exit)) (now (pixels .exit)) (now (log .exit)) ≡ requested request (plateAtEntry planes pixels log) ⌝ }
 {

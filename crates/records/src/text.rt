@@ -5,7 +5,7 @@ ghost use Prim.Native.Nat.{_+_, _*_, _^_, _<_, _≤_};
 ghost use lib.ListN.{length};
 ghost use Rattle.records.specs.Text.{decimal, space, numbered, doneLine, headLine, cellText, rowText, rowsText, showText};
 ghost use Rattle.records.specs.code.Written.{Wrote, WroteIn, gapText};
-ghost use Rattle.records.specs.code.Room.{lineRoom, cellRoom, rowRoom, rowsRoom, CellsRoom};
+ghost use Rattle.records.specs.code.Room.{lineRoom, cellRoom, rowRoom, rowsRoom, CellsRoom, ShowRoom};
 
 // One byte.
 fn byte(out: &mut [u8], at: usize, b: u8) -> usize
@@ -149,7 +149,7 @@ fn rows(out: &mut [u8], at: usize, values: &[u16], mattes: &[u8], w: usize, h: u
 
 // A show, from the start on.
 pub(crate) fn show(out: &mut [u8], values: &[u16], mattes: &[u8], w: usize, h: usize) -> usize
-    requires { ⌜ CellsRoom (lineRoom + rowsRoom w h) 0 (h * w) (now out) (now values) (now mattes) ⌝ }
+    requires { ⌜ ShowRoom w h (now out) (now values) (now mattes) ⌝ }
     ensures { λ r. ⌜ Wrote (now (out .entry)) 0 (showText w h (now (values .entry)) (now (mattes .entry))) (now (out .exit)) r ⌝ }
 {
     let next = head(out, w as u64, h as u64);

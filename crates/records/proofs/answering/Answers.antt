@@ -12,7 +12,7 @@ use Rattle.plate.proofs.demands.Reports.{refusal-some}
 use Rattle.records.specs.Text.{numbered, refusedWord, showText}
 use Rattle.records.specs.Record.{Sizes, Cells}
 use Rattle.records.specs.Run.{answerText}
-use Rattle.records.specs.Machine.{Opened, Said, said, stoppedBy, openedBy, shownText}
+use Rattle.records.specs.Machine.{Opened, said, stoppedBy, openedBy, shownText}
 
 -- a line for each number but 0
 pub no-answer : (k n : ℕ) → n ≡ 0 → answerText k n ≡ []

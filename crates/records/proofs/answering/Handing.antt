@@ -5,7 +5,7 @@ use Prim.Native.Nat.{ℕ, _+_, _≤_}
 use native.Mathlib.Omega.{arith}
 use lib.ListN.{length, drop, length-append}
 use Rattle.records.specs.Text.{withText}
-use Rattle.records.specs.Machine.{Buffers, Did, Machine, standing, doneBy, Fed, fed, Handed, handed, handOut, Closing, closing, closeWith}
+use Rattle.records.specs.Machine.{Buffers, Did, Machine, standing, doneBy, Progress, fed, Handed, handed, handOut, Closing, closing, closeWith}
 use Rattle.records.specs.code.Written.{Wrote}
 use Rattle.records.specs.code.Done.{Done, DoneOut, doneWith, doneOf}
 use Rattle.records.proofs.writing.Slices.{written-none}
@@ -34,7 +34,7 @@ room-of t out e =
     let long = length-append t (drop (0 + length t) out) in
     omega (arith, rw long at e)
 
-pub handed-room : (m : Machine) (n : ℕ) (b : Buffers) (after out : List ℕ) (f : Fed) → handed m n b after ≡ handOut f out
+pub handed-room : (m : Machine) (n : ℕ) (b : Buffers) (after out : List ℕ) (f : Progress) → handed m n b after ≡ handOut f out
     → length after ≡ length out → n ≤ length out
 handed-room m n b after out f e same =
     let text = room-of (f .text) out (ap (λ (h : Handed). length (h .out)) (sym e) ∙ same) in

@@ -5,7 +5,7 @@ use Prim.Native.Nat.{ℕ}
 use lib.ListN.{take, drop}
 use Rattle.plate.specs.declared.state.Answer.{Answer}
 use Rattle.plate.specs.Lent.{Lent, lent}
-use Rattle.plate.specs.Calls.{Left, left}
+use Rattle.plate.specs.Calls.{left}
 use Rattle.records.specs.Machine.{planesOf, placesOf, frontOf, frontBack, Request, requestSize, requestCall, requested}
 
 -- the call is lent n cells and m places

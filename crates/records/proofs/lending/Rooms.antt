@@ -10,11 +10,11 @@ use Rattle.plate.specs.declared.size.Size.{Size}
 use Rattle.records.specs.Machine.{ifRoom, cellsOf, placesOf}
 use Rattle.records.specs.Fixed.{cellsTop}
 
-pub few : (z : Size) (n : ℕ) → padded z ≤ cellsTop → ifRoom z n ≡ n
-few z n h = rw (le-ltb cellsTop (padded z) h)
+pub has-room : (z : Size) (n : ℕ) → padded z ≤ cellsTop → ifRoom z n ≡ n
+has-room z n h = rw (le-ltb cellsTop (padded z) h)
 
-pub none : (z : Size) (n : ℕ) → cellsTop < padded z → ifRoom z n ≡ 0
-none z n h = rw (lt-ltb cellsTop (padded z) h)
+pub no-room : (z : Size) (n : ℕ) → cellsTop < padded z → ifRoom z n ≡ 0
+no-room z n h = rw (lt-ltb cellsTop (padded z) h)
 
 pub places-few : (z : Size) → places z ≤ padded z
 places-few z = product-le (z .width) (z .height) (wide z) (high z) (omega arith) (omega arith)
@@ -29,8 +29,9 @@ tall z h = omega (arith, product-le 1 (suc cellsTop) (wide z) (high z) (omega ar
 -- so the lengths of what is lent are within the buffers
 pub cells-within : (z : Size) → cellsOf z ≤ cellsTop
 cells-within z =
-    by-lt cellsTop (padded z) (λ h. rw (none z (padded z) h) (omega arith)) (λ h. rw (few z (padded z) h) h)
+    by-lt cellsTop (padded z) (λ h. rw (no-room z (padded z) h) (omega arith)) (λ h. rw (has-room z (padded z) h) h)
 
 pub places-within : (z : Size) → placesOf z ≤ cellsTop
 places-within z =
-    by-lt cellsTop (padded z) (λ h. rw (none z (places z) h) (omega arith)) (λ h. rw (few z (places z) h) (omega (arith, places-few z)))
+    by-lt cellsTop (padded z) (λ h. rw (no-room z (places z) h) (omega arith))
+    (λ h. rw (has-room z (places z) h) (omega (arith, places-few z)))

@@ -20,7 +20,7 @@ use Rattle.plate.specs.Lent.{Views}
 use Rattle.plate.specs.Calls.{Shown, shown, showBy, showCall}
 use Rattle.plate.proofs.checks.Passed.{passed, sizes-passed}
 use Rattle.records.specs.Machine.{planesOf}
-use Rattle.records.proofs.lending.Rooms.{none}
+use Rattle.records.proofs.lending.Rooms.{no-room}
 use Rattle.records.proofs.answering.Answers.{accepted-by}
 use Rattle.records.specs.Fixed.{cellsTop, textRoom}
 use Rattle.plate.specs.Fixed.{planesInAll, border}
@@ -48,7 +48,7 @@ few-shown s planes v r e long accepted =
     let z = s .size in
     let cells = lent-cells s planes v (ap (λ (w : Shown). outcomeNumber (w .answer .outcome)) (sym e) ∙ accepted) in
     let some = product-le 1 1 (wide z) (high z) (omega arith) (omega arith) in
-    by-lt cellsTop (padded z) (λ h. absurd (omega (arith, none z (padded z) h))) (λ h. h)
+    by-lt cellsTop (padded z) (λ h. absurd (omega (arith, no-room z (padded z) h))) (λ h. h)
 
 -- so few cells have few places
 pub text-fits : (z : Size) → padded z ≤ cellsTop → lineRoom + rowsRoom (z .width) (z .height) ≤ textRoom

@@ -13,7 +13,7 @@ use Rattle.kernels.specs.Choice.{pick}
 use Rattle.kernels.proofs.numbers.Choices.{by-lt}
 use Rattle.records.specs.Record.{Body, recordOf}
 use Rattle.records.specs.Run.{stopText}
-use Rattle.records.specs.Machine.{Stage, Ended, Machine, machine, Buffers, recordOn, Fed, fed, fedThen, doneBy, settledOf, carriedOf, takenOf, fedBy, fedTaken, endedAt, feedOf, endText, finishOf, feedAll, fresh, zeroed, machineText}
+use Rattle.records.specs.Machine.{Stage, Ended, Machine, machine, Buffers, recordOn, Progress, fed, fedThen, doneBy, settledOf, carriedOf, takenOf, fedBy, fedTaken, endedAt, feedOf, endText, finishOf, feedAll, fresh, zeroed, machineText}
 use Rattle.records.specs.Fixed.{longestBody}
 
 -- THE TEXT FROM A MACHINE ON
@@ -21,10 +21,10 @@ unfoldable pub run : Machine → Buffers → List ℕ → List ℕ
 run m b [] = finishOf m
 run m b (x ∷ xs) = feedOf m x b .text ++ run (feedOf m x b .machine) (feedOf m x b .buffers) xs
 
-abbrev pub onward : Fed → List ℕ → List ℕ
+abbrev pub onward : Progress → List ℕ → List ℕ
 onward f xs = f .text ++ run (f .machine) (f .buffers) xs
 
-pub all-onward : (f : Fed) (xs : List ℕ) → feedAll f xs .text ++ finishOf (feedAll f xs .machine) ≡ onward f xs
+pub all-onward : (f : Progress) (xs : List ℕ) → feedAll f xs .text ++ finishOf (feedAll f xs .machine) ≡ onward f xs
 unfolding feedAll run
 all-onward f [] = refl
 all-onward f (x ∷ xs) =
@@ -65,10 +65,16 @@ filled-take body i [] (suc j) p q = absurd (omega arith)
 filled-take body i (x ∷ xs) (suc j) p q =
     let e : i + suc j ≡ (i + 1) + j = omega arith in
     let long : length (set body i x) ≡ length body = length-set body i x in
-    rw (e, filled-take (set body i x) (i + 1) xs j (omega arith) (omega arith), add-one i, take-suc-set body i x (omega arith), append-assoc (take i body) (x ∷ []) (take j xs))
+    rw (
+      e,
+      filled-take (set body i x) (i + 1) xs j (omega arith) (omega arith),
+      add-one i,
+      take-suc-set body i x (omega arith),
+      append-assoc (take i body) (x ∷ []) (take j xs),
+    )
 
 -- a machine whose record's body is whole does the record
-abbrev pub finished : Stage → ℕ → ℕ → List ℕ → ℕ → Buffers → Fed
+abbrev pub finished : Stage → ℕ → ℕ → List ℕ → ℕ → Buffers → Progress
 finished s kind whole body count b =
     doneBy (machine s kind whole whole body count) (recordOn count s (recordOf kind body) b)
 
@@ -83,7 +89,8 @@ settled-does : (s : Stage) (kind whole : ℕ) (body : List ℕ) (count : ℕ) (b
 unfolding settledOf fedBy
 settled-does s kind whole body count b = rw (le-ltb whole whole (omega arith))
 
-fed-body : (s : Stage) → endedAt s ≡ false → (kind held whole : ℕ) (body : List ℕ) (count x : ℕ) (b : Buffers) → held < whole → held < longestBody
+fed-body : (s : Stage) → endedAt s ≡ false → (kind held whole : ℕ) (body : List ℕ) (count x : ℕ) (b : Buffers)
+    → held < whole → held < longestBody
     → feedOf (machine s kind held whole body count) x b
     ≡ fedTaken (settledOf (machine s kind (held + 1) whole (set body held x) count)) b
 unfolding takenOf carriedOf
@@ -118,8 +125,8 @@ body-read s live kind held whole body count b [] (suc j) e few =
       lt-ltb 0 (suc j) (omega arith),
     )
 body-read s live kind held whole body count b (x ∷ xs) (suc j) e few =
-    ap (λ (f : Fed). onward f (x ∷ xs)) (settled-waits s kind held whole body count b (omega arith))
-    ∙ ap (λ (f : Fed). onward f xs) (fed-body s live kind held whole body count x b (omega arith) (omega arith))
+    ap (λ (f : Progress). onward f (x ∷ xs)) (settled-waits s kind held whole body count b (omega arith))
+    ∙ ap (λ (f : Progress). onward f xs) (fed-body s live kind held whole body count x b (omega arith) (omega arith))
     ∙ body-read s live kind (held + 1) whole (set body held x) count b xs j (omega arith) few
     ∙ ap
     (λ (t : Bool).

@@ -26,7 +26,7 @@ use Rattle.records.specs.Record.{Record, Open, Put, NoShape, Undo, Show,
 use Rattle.records.specs.Run.{Desk, opens, act}
 use Rattle.records.specs.Machine.{Stage, Buffers, cellsOf, placesOf, planesOf, frontOf, ToOpen, requestCall, requested, Did, openedBy, serving, recordOn}
 use Rattle.records.proofs.reading.Bodies.{LawfulRecord}
-use Rattle.records.proofs.lending.Rooms.{few, places-few}
+use Rattle.records.proofs.lending.Rooms.{has-room, places-few}
 use Rattle.records.proofs.standing.Invariant.{RightLengths, lentOf, Stands, at-closed, at-open, Agrees, part-length, open-again, answered-agrees, show-agree}
 use Rattle.records.specs.Fixed.{cellsTop, logRoom}
 use Rattle.plate.specs.Fixed.{planesInAll, sideTop, placesTop, reachTop}
@@ -47,7 +47,8 @@ sizes-refuse z =
     (refuses-if (ltb sideTop (z .width)) _
     (refuses-if (ltb (z .height) 1) _
     (refuses-if (ltb sideTop (z .height)) _
-    (refuses-if (ltb placesTop (z .width * z .height)) _ (refuses-if (ltb reachTop (z .reach)) (λ next. next) (inr (λ next. refl)))))))
+    (refuses-if (ltb placesTop (z .width * z .height)) _
+    (refuses-if (ltb reachTop (z .reach)) (λ next. next) (inr (λ next. refl)))))))
 
 -- OPEN
 abbrev opening : ℕ → Size → Buffers → Did
@@ -62,13 +63,19 @@ module _ (k : ℕ) (z : Size) (b : Buffers) (s : RightLengths b) where
   unfolding opens requested requestCall openCall openBy openCheck openedBy lentCheck frontOf refuseIf
   open-cells fine h =
       let none : cellsOf z ≡ 0 = rw (lt-ltb cellsTop (padded z) h) in
-      rw (fine Accepted, fine (lentCheck z (sizedAs (lentOf z b)) Accepted), lt-ltb cellsTop (padded z) h, ne-eqb 0 (planesInAll * padded z) (omega arith)) (refl, refl)
+      rw (
+        fine Accepted,
+        fine (lentCheck z (sizedAs (lentOf z b)) Accepted),
+        lt-ltb cellsTop (padded z) h,
+        ne-eqb 0 (planesInAll * padded z) (omega arith),
+      )
+      (refl, refl)
 
   open-passes : ((next : Outcome) → sizesCheck z next ≡ next) → padded z ≤ cellsTop → openCheck z (sizedAs (lentOf z b)) ≡ Accepted
   unfolding openCheck frontOf
   open-passes fine h =
-      let cells = few z (padded z) h in
-      let pixels = few z (places z) h in
+      let cells = has-room z (padded z) h in
+      let pixels = has-room z (places z) h in
       let small = places-few z in
       fine (lentCheck z (sizedAs (lentOf z b)) Accepted)
       ∙ lent-pass z (sizedAs (lentOf z b)) Accepted

@@ -26,8 +26,8 @@ use Rattle.plate.proofs.demands.Demand.{show-agrees}
 use Rattle.plate.proofs.demands.Logs.{log-length}
 use Rattle.plate.proofs.demands.Mirror.{Mirrored, heldBy, mirror, Agree}
 use Rattle.records.specs.Run.{Desk, closed, opened, Act, stop, go, answerText, reportText, pictureText, stopText, noted}
-use Rattle.records.proofs.lending.Rooms.{few, places-few}
-use Rattle.records.specs.Machine.{Stage, Closed, Opened, Ended, Buffers, cellsOf, placesOf, planesOf, sumsOf, frontOf, frontBack, plateOf, holding, viewsOf, viewsBack, Did, did, answeredBy, shownText, showOn}
+use Rattle.records.proofs.lending.Rooms.{has-room, places-few}
+use Rattle.records.specs.Machine.{Stage, Closed, Opened, Ended, Buffers, placesOf, planesOf, sumsOf, frontOf, frontBack, plateOf, holding, viewsOf, viewsBack, Did, did, answeredBy, shownText, showOn}
 use Rattle.records.specs.Fixed.{cellsTop, planesRoom, scratchRoom, logRoom}
 use Rattle.plate.specs.Fixed.{planesInAll, scratchPlanes}
 use Rattle.kernels.specs.Fixed.{planesEach}
@@ -54,7 +54,8 @@ answeredOn k z l b = did (answeredBy k (l .answer)) (lentBack z (l .kept) b)
 -- THE INVARIANT: what is lent of the buffers is the plate that mirrors the notebook
 pub data Stands : Stage → Buffers → Desk → Type 0 where
   at-closed : {b : Buffers} → RightLengths b → Stands Closed b closed
-  at-open : {b : Buffers} (z : Size) (planes : List ℕ) (grid : List Pixel) (pile : List Entry) → RightLengths b → padded z ≤ cellsTop
+  at-open : {b : Buffers} (z : Size) (planes : List ℕ) (grid : List Pixel) (pile : List Entry)
+      → RightLengths b → padded z ≤ cellsTop
       → Mirrored z logRoom planes grid pile → lentOf z b ≡ heldBy logRoom planes grid pile
       → Stands (Opened (stateOf z (length pile))) b (opened (bookOf z logRoom grid pile))
 
@@ -69,7 +70,10 @@ lent-again : (z : Size) (b : Buffers) (l : Lent) → length (l .planes) ≡ plan
     → lentOf z (lentBack z l b) ≡ l
 unfolding frontOf frontBack
 lent-again z b l p q =
-    rw (take-at (l .planes) (drop (planesOf z) (b .planes)) (planesOf z) p, take-at (l .pixels) (drop (placesOf z) (b .pixels)) (placesOf z) q)
+    rw (
+      take-at (l .planes) (drop (planesOf z) (b .planes)) (planesOf z) p,
+      take-at (l .pixels) (drop (placesOf z) (b .pixels)) (placesOf z) q,
+    )
 
 back-length : (n : ℕ) (front whole : List ℕ) → length front ≡ n → n ≤ length whole → length (front ++ drop n whole) ≡ length whole
 back-length n front whole e h = rw (length-append front (drop n whole), length-drop n whole, e) (omega arith)
@@ -78,8 +82,8 @@ lent-sized : (z : Size) (b : Buffers) (l : Lent) → padded z ≤ cellsTop → R
     → length (l .pixels) ≡ placesOf z → length (l .log) ≡ logRoom → RightLengths (lentBack z l b)
 unfolding frontBack
 lent-sized z b l h s p q r =
-    let cells = few z (padded z) h in
-    let pixels = few z (places z) h in
+    let cells = has-room z (padded z) h in
+    let pixels = has-room z (places z) h in
     record {
       planes-are = back-length (planesOf z) (l .planes) (b .planes) p (omega (arith, s .planes-are)) ∙ s .planes-are;
       pixels-are = back-length (placesOf z) (l .pixels) (b .pixels) q (omega (arith, s .pixels-are, places-few z)) ∙ s .pixels-are;
@@ -90,14 +94,15 @@ lent-sized z b l h s p q r =
     }
 
 -- the plate that a call leaves in the buffers
-pub open-again : (z : Size) (b : Buffers) (l : Lent) (planes : List ℕ) (grid : List Pixel) (pile : List Entry) → padded z ≤ cellsTop → RightLengths b
+pub open-again : (z : Size) (b : Buffers) (l : Lent) (planes : List ℕ) (grid : List Pixel) (pile : List Entry)
+    → padded z ≤ cellsTop → RightLengths b
     → l ≡ heldBy logRoom planes grid pile → Mirrored z logRoom planes grid pile
     → Stands (Opened (stateOf z (length pile))) (lentBack z l b) (opened (bookOf z logRoom grid pile))
 open-again z b l planes grid pile h s e kept =
     let p : length (l .planes) ≡ planesOf z =
-    ap (λ (k : Lent). length (k .planes)) e ∙ kept .cells-count ∙ ap (λ (n : ℕ). planesInAll * n) (sym (few z (padded z) h)) in
+    ap (λ (k : Lent). length (k .planes)) e ∙ kept .cells-count ∙ ap (λ (n : ℕ). planesInAll * n) (sym (has-room z (padded z) h)) in
     let q : length (l .pixels) ≡ placesOf z =
-    ap (λ (k : Lent). length (k .pixels)) e ∙ length-map grid wordOf ∙ kept .grid-size ∙ sym (few z (places z) h) in
+    ap (λ (k : Lent). length (k .pixels)) e ∙ length-map grid wordOf ∙ kept .grid-size ∙ sym (has-room z (places z) h) in
     let r : length (l .log) ≡ logRoom = ap (λ (k : Lent). length (k .log)) e ∙ log-length logRoom pile in
     at-open z planes grid pile (lent-sized z b l h s p q r) h kept (lent-again z b l p q ∙ e)
 
@@ -106,7 +111,8 @@ plain-text : (k : ℕ) (z : Size) (n m : ℕ) → answerText k n ≡ reportText 
 unfolding reportText pictureText
 plain-text k z n m = sym (append-nil (answerText k n))
 
-pub answered-agrees : (k : ℕ) (z : Size) (b : Buffers) (grid : List Pixel) (pile : List Entry) (l : Left) (t : Turn) → padded z ≤ cellsTop → RightLengths b
+pub answered-agrees : (k : ℕ) (z : Size) (b : Buffers) (grid : List Pixel) (pile : List Entry) (l : Left) (t : Turn)
+    → padded z ≤ cellsTop → RightLengths b
     → Agree z logRoom (stepOf l) t → Agrees k (noted k (bookOf z logRoom grid pile) t) (answeredOn k z l b)
 answered-agrees k z b grid pile l t h s a = (
   plain-text k z (outcomeNumber (l .answer .outcome)) (l .answer .marks) ∙ ap (reportText k z) (a .same-report),
@@ -123,8 +129,8 @@ views-fit : (z : Size) (b : Buffers) → padded z ≤ cellsTop → RightLengths 
     viewsCheck z (length (v .scratch)) (length (v .values)) (length (v .mattes)) ≡ Accepted
 unfolding viewsOf viewsCheck
 views-fit z b h s =
-    let cells = few z (padded z) h in
-    let pictures = few z (places z) h in
+    let cells = has-room z (padded z) h in
+    let pictures = has-room z (places z) h in
     let small = places-few z in
     rw (
       passes _ _ _ (length-pass (length (take (sumsOf z) (b .scratch))) (scratchPlanes * padded z)
@@ -152,8 +158,8 @@ views-sized : (z : Size) (b : Buffers) (v : Views) → padded z ≤ cellsTop →
     → length (v .values) ≡ placesOf z → length (v .mattes) ≡ placesOf z → RightLengths (viewsBack z v b)
 unfolding viewsBack
 views-sized z b v h s p q r =
-    let cells = few z (padded z) h in
-    let pictures = few z (places z) h in
+    let cells = has-room z (padded z) h in
+    let pictures = has-room z (places z) h in
     let small = places-few z in
     record {
       planes-are = s .planes-are;
@@ -164,19 +170,21 @@ views-sized z b v h s p q r =
       mattes-are = back-length (placesOf z) (v .mattes) (b .mattes) r (omega (arith, s .mattes-are)) ∙ s .mattes-are;
     }
 
-shown-sized : (z : Size) (n : ℕ) (planes : List ℕ) (b : Buffers) → padded z ≤ cellsTop → RightLengths b
+shown-sized : (z : Size) (n : ℕ) (planes : List ℕ) (b : Buffers)
+    → padded z ≤ cellsTop → RightLengths b
     → RightLengths (viewsBack z (showBy Accepted (stateOf z n) planes (viewsOf z b) .seen) b)
 unfolding showBy viewsOf
 shown-sized z n planes b h s =
-    let cells = few z (padded z) h in
-    let pictures = few z (places z) h in
+    let cells = has-room z (padded z) h in
+    let pictures = has-room z (places z) h in
     let seen = showBy Accepted (stateOf z n) planes (viewsOf z b) .seen in
     let scratch : length (seen .scratch) ≡ sumsOf z =
     length-replicate {A = ℕ} (length (take (sumsOf z) (b .scratch))) 0
     ∙ part-length (sumsOf z) (b .scratch) (omega (arith, s .scratch-is)) in
     let values : length (seen .values) ≡ placesOf z =
     length-listTo (λ i. shownValue (sumAt z planes 0 i) (sumAt z planes planesEach i)) (places z) ∙ sym pictures in
-    let mattes : length (seen .mattes) ≡ placesOf z = length-listTo (λ i. shownMatte (sumAt z planes planesEach i)) (places z) ∙ sym pictures in
+    let mattes : length (seen .mattes) ≡ placesOf z =
+    length-listTo (λ i. shownMatte (sumAt z planes planesEach i)) (places z) ∙ sym pictures in
     views-sized z b seen h s scratch values mattes
 
 seen-text : (k : ℕ) (z : Size) (o : Outcome) (n : ℕ) (v : Views)
@@ -185,7 +193,8 @@ unfolding shownText reportText pictureText seenBy answerText
 seen-text k z Accepted n v = refl
 seen-text k z (Refused f) n v = sym (append-nil (answerText k (refusalNumber f)))
 
-show-stands : (z : Size) (b : Buffers) (v : Shown) (planes : List ℕ) (grid : List Pixel) (pile : List Entry) (t : Turn) → padded z ≤ cellsTop
+show-stands : (z : Size) (b : Buffers) (v : Shown) (planes : List ℕ) (grid : List Pixel) (pile : List Entry) (t : Turn)
+    → padded z ≤ cellsTop
     → RightLengths (viewsBack z (v .seen) b) → lentOf z b ≡ heldBy logRoom planes grid pile
     → Agree z logRoom (shownTo (mirror z logRoom planes grid pile) v) t
     → Stands (Opened (v .answer .state)) (viewsBack z (v .seen) b) (opened (t .book))
@@ -194,9 +203,11 @@ show-stands z b v planes grid pile t h s e a =
     rw (ap (λ (p : Plate). p .state) (a .same-plate), a .same-book)
     (at-open z (a .planes) (a .grid) (a .pile) s h (a .kept) (e ∙ ap (λ (p : Plate). p .kept) (a .same-plate)))
 
-pub show-agree : (k : ℕ) (z : Size) (planes : List ℕ) (grid : List Pixel) (pile : List Entry) (b : Buffers) → padded z ≤ cellsTop → RightLengths b
+pub show-agree : (k : ℕ) (z : Size) (planes : List ℕ) (grid : List Pixel) (pile : List Entry) (b : Buffers)
+    → padded z ≤ cellsTop → RightLengths b
     → Mirrored z logRoom planes grid pile → lentOf z b ≡ heldBy logRoom planes grid pile
-    → Agrees k (noted k (bookOf z logRoom grid pile) (bookShowBy Accepted (bookOf z logRoom grid pile))) (showOn k (stateOf z (length pile)) b)
+    → Agrees k (noted k (bookOf z logRoom grid pile) (bookShowBy Accepted (bookOf z logRoom grid pile)))
+    (showOn k (stateOf z (length pile)) b)
 unfolding showOn frontOf bookShow
 show-agree k z planes grid pile b h s kept e =
     let v = viewsOf z b in

@@ -1,24 +1,19 @@
 -- FROM BYTES TO TEXT: what the machine writes is the text of the paper's rules, by induction over the records of the input.
 use mathlib.Core.Path.{_≡_, refl, ap, sym, _∙_}
-use mathlib.Core.Bool.{Bool, true, false}
+use mathlib.Core.Bool.{false}
 use mathlib.Core.List.{List, [], _∷_, _++_, append-nil}
 use Prim.Native.Nat.{ℕ, zero, suc, _+_, _-_, _^_, _≤_, _<_}
 use native.Mathlib.Omega.{arith}
 use borrow.Author.Tests.{lt-ltb, le-ltb}
-use lib.Dec.{eqb, lit<}
-use lib.ListN.{length, getD, take, drop, set, length-set, length-drop, length-map, length-replicate}
-use lib.Seq.{getD-take, getD-drop}
-use Rattle.kernels.specs.Choice.{pick}
-use Rattle.kernels.specs.declared.shape.ShapeRead.{ShapeRead}
-use Rattle.kernels.specs.declared.shape.ShapeRead.the-variants.{Known, Unknown}
-use Rattle.kernels.specs.Shape.{shapeOf}
+use lib.Dec.{lit<}
+use lib.ListN.{length, take, drop, set, length-set, length-drop, length-map, length-replicate}
 use Rattle.kernels.proofs.numbers.Choices.{by-lt}
 use Rattle.plate.specs.Calls.{zeros}
 use Rattle.plate.specs.Notebook.{Book}
 use Rattle.plate.specs.Lists.{Byte, codes}
-use Rattle.records.specs.Record.{Record, Undo, Show, Kind, Bytes, NoKind, bodyLength, putRecord, recordOf, next, withBody, itemsBy, itemsOf}
-use Rattle.records.specs.Run.{Desk, closed, opened, Act, stop, go, act, stopText, thenText, textFrom, text}
-use Rattle.records.specs.Machine.{Stage, Closed, machine, Buffers, Did, recordOn, Fed, doneBy, settledOf, begunBy, begunOf, takenOf, fedBy, fedTaken, endedAt, feedOf, endText, feedAll, feedParts, joined, fed, fresh, zeroed, machineText, ending, EndToEnd, AnyCut, fedThen}
+use Rattle.records.specs.Record.{Kind, Bytes, NoKind, bodyLength, recordOf, next, withBody, itemsBy, itemsOf}
+use Rattle.records.specs.Run.{Desk, closed, opened, Act, stop, go, act, stopText, thenText, textFrom, paperText}
+use Rattle.records.specs.Machine.{Stage, Closed, machine, Buffers, Did, recordOn, Progress, doneBy, settledOf, begunBy, begunOf, takenOf, fedBy, fedTaken, endedAt, feedOf, endText, feedAll, feedParts, joined, fed, fresh, zeroed, machineText, ending, EndToEnd, AnyCut, fedThen}
 use Rattle.records.proofs.running.Feeding.{run, onward, machine-text-run, run-ended, fed-live, last-live, filled, filled-take, body-read}
 use Rattle.records.proofs.standing.Invariant.{RightLengths, Stands, at-closed, at-open, Agrees}
 use Rattle.records.proofs.standing.Acts.{acts-agree}
@@ -36,7 +31,8 @@ stands-live : (s : Stage) (b : Buffers) (d : Desk) → Stands s b d → endedAt 
 stands-live s b d (at-closed h) = refl
 stands-live s b d (at-open z planes grid pile h small kept e) = refl
 
-goes-on : (k : ℕ) (a : Act) (d : Did) (s : Stage) (kind whole : ℕ) (body : List ℕ) (xs : List ℕ) (rest : Desk → List ℕ) → Agrees k a d
+goes-on : (k : ℕ) (a : Act) (d : Did) (s : Stage) (kind whole : ℕ) (body : List ℕ) (xs : List ℕ) (rest : Desk → List ℕ)
+    → Agrees k a d
     → ((t : Stage) (b : Buffers) (book : Book) → Stands t b (opened book)
     → run (machine t kind whole whole body k) b xs ≡ rest (opened book))
     → onward (doneBy (machine s kind whole whole body k) d) xs ≡ thenText k a rest
@@ -54,13 +50,14 @@ Follows n =
     → run (machine s kind whole whole body k) b input ≡ textFrom k d (itemsBy n input)
 
 -- a kind with a body of m bytes
-known-kind : (n : ℕ) → Follows n → (m : ℕ) → m ≤ longestBody → (kind : ℕ) → ((body : List ℕ) → recordOf kind body ≡ recordOf kind (take m body))
+known-kind : (n : ℕ) → Follows n → (m : ℕ) → m ≤ longestBody → (kind : ℕ)
+    → ((body : List ℕ) → recordOf kind body ≡ recordOf kind (take m body))
     → (s : Stage) (body : List ℕ) (k : ℕ) (b : Buffers) (d : Desk) (xs : List ℕ) → length xs < n
     → Stands s b d → length body ≡ longestBody → k + 1 + length xs < 2 ^ 64 → AllBytes xs
     → onward (fedTaken (settledOf (machine s kind 0 m body (k + 1))) b) xs
     ≡ textFrom k d (withBody (Bytes m) xs (λ l. next (recordOf kind (take l xs)) (itemsBy n (drop l xs))))
 unfolding textFrom
-known-kind n follows m few kind front s body k b d xs short stands nine fits small =
+known-kind n follows m few kind front s body k b d xs short stands long fits small =
     body-read s (stands-live s b d stands) kind 0 m body (k + 1) b xs m (omega arith) few
     ∙ by-lt (length xs) m
     (λ h. rw (lt-ltb (length xs) m h))
@@ -70,12 +67,13 @@ known-kind n follows m few kind front s body k b d xs short stands nine fits sma
     let held : take m now ≡ take m xs = rw zero-more at (filled-take body 0 xs m (omega arith) h) in
     let read : recordOf kind now ≡ recordOf kind (take m xs) = front now ∙ ap (recordOf kind) held in
     rw (le-ltb (length xs) m h, read)
-    (goes-on (k + 1) (act (k + 1) d (recordOf kind (take m xs))) (recordOn (k + 1) s (recordOf kind (take m xs)) b) s kind m now (drop m xs)
+    (goes-on (k + 1) (act (k + 1) d (recordOf kind (take m xs))) (recordOn (k + 1) s (recordOf kind (take m xs)) b)
+    s kind m now (drop m xs)
     (λ e. textFrom (k + 1) e (itemsBy n (drop m xs)))
     (acts-agree (k + 1) s b d (recordOf kind (take m xs)) stands (record-lawful kind (take m xs) (take-bytes m xs small)))
     (λ t c book st.
     follows t kind m now (k + 1) c (opened book) (drop m xs) (omega (arith, length-drop m xs)) st
-    (filled-length body 0 xs m ∙ nine)
+    (filled-length body 0 xs m ∙ long)
     (omega (arith, length-drop m xs))
     (drop-bytes m xs small))))
 
@@ -87,7 +85,8 @@ kind-fed s live kind whole body k x b h =
     fed-live (machine s kind whole whole body k) x b live ∙ rw (le-ltb whole whole (omega arith), lt-ltb k (2 ^ 64 - 1) h)
 
 module _ (n : ℕ) (follows : Follows n) (s : Stage) (whole : ℕ) (body : List ℕ) (k : ℕ) (b : Buffers) (d : Desk) (xs : List ℕ)
-    (short : length xs < n) (stands : Stands s b d) (nine : length body ≡ longestBody) (fits : k + 1 + length xs < 2 ^ 64) (small : AllBytes xs) where
+    (short : length xs < n) (stands : Stands s b d) (long : length body ≡ longestBody)
+    (fits : k + 1 + length xs < 2 ^ 64) (small : AllBytes xs) where
   -- what is to be shown of the byte of kind x
   abbrev Kinded : ℕ → Type 0
   Kinded x =
@@ -101,22 +100,22 @@ module _ (n : ℕ) (follows : Follows n) (s : Stage) (whole : ℕ) (body : List 
   kinds : (x : ℕ) → Kinded x
   unfolding begunBy recordOf
   kinds zero = no-kind 0 refl
-  kinds (suc zero) = known-kind n follows openBody (omega arith) 1 front-open s body k b d xs short stands nine fits small
-  kinds (suc (suc zero)) = known-kind n follows putBody (omega arith) 2 front-put s body k b d xs short stands nine fits small
+  kinds (suc zero) = known-kind n follows openBody (omega arith) 1 front-open s body k b d xs short stands long fits small
+  kinds (suc (suc zero)) = known-kind n follows putBody (omega arith) 2 front-put s body k b d xs short stands long fits small
   kinds (suc (suc (suc zero))) =
-      known-kind n follows 0 (omega arith) 3 (λ _. refl) s body k b d xs short stands nine fits small
+      known-kind n follows 0 (omega arith) 3 (λ _. refl) s body k b d xs short stands long fits small
   kinds (suc (suc (suc (suc zero)))) =
-      known-kind n follows 0 (omega arith) 4 (λ _. refl) s body k b d xs short stands nine fits small
+      known-kind n follows 0 (omega arith) 4 (λ _. refl) s body k b d xs short stands long fits small
   kinds (suc (suc (suc (suc (suc x))))) = no-kind (suc (suc (suc (suc (suc x))))) refl
 
 follows-all : (n : ℕ) → Follows n
 unfolding run itemsBy endText textFrom
-follows-all zero s kind whole body k b d input short stands nine fits small = absurd (omega arith)
-follows-all (suc n) s kind whole body k b d [] short stands nine fits small =
+follows-all zero s kind whole body k b d input short stands long fits small = absurd (omega arith)
+follows-all (suc n) s kind whole body k b d [] short stands long fits small =
     last-live (machine s kind whole whole body k) (stands-live s b d stands) ∙ rw (le-ltb whole whole (omega arith))
-follows-all (suc n) s kind whole body k b d (x ∷ xs) short stands nine fits small =
-    ap (λ (f : Fed). onward f xs) (kind-fed s (stands-live s b d stands) kind whole body k x b (omega arith))
-    ∙ kinds n (follows-all n) s whole body k b d xs (omega arith) stands nine (omega arith) (λ i. small (suc i)) x
+follows-all (suc n) s kind whole body k b d (x ∷ xs) short stands long fits small =
+    ap (λ (f : Progress). onward f xs) (kind-fed s (stands-live s b d stands) kind whole body k x b (omega arith))
+    ∙ kinds n (follows-all n) s whole body k b d xs (omega arith) stands long (omega arith) (λ i. small (suc i)) x
 
 -- FROM BYTES TO TEXT
 zeros-long : (n : ℕ) → length (zeros n) ≡ n
@@ -139,21 +138,22 @@ codes-bytes (b ∷ bs) zero = b .small
 codes-bytes (b ∷ bs) (suc i) = codes-bytes bs i
 
 pub end-to-end : EndToEnd
-unfolding text itemsOf
+unfolding paperText itemsOf
 end-to-end input h =
     let bytes = codes input in
     let long : length bytes ≡ length input = length-map input (λ (b : Byte). b .code) in
     machine-text-run bytes
-    ∙ follows-all (suc (length bytes)) Closed 0 0 (zeros longestBody) 0 zeroed closed bytes (omega arith) (at-closed zeroed-sized) (zeros-long longestBody)
+    ∙ follows-all (suc (length bytes)) Closed 0 0 (zeros longestBody) 0 zeroed closed bytes (omega arith) (at-closed zeroed-sized)
+    (zeros-long longestBody)
     (omega arith) (codes-bytes input)
 
 -- IN ANY CUT
-fed-both : (f : Fed) (xs ys : List ℕ) → feedAll f (xs ++ ys) ≡ feedAll (feedAll f xs) ys
+fed-both : (f : Progress) (xs ys : List ℕ) → feedAll f (xs ++ ys) ≡ feedAll (feedAll f xs) ys
 unfolding feedAll
 fed-both f [] ys = refl
 fed-both f (x ∷ xs) ys = fed-both (fedThen (f .text) (feedOf (f .machine) x (f .buffers))) xs ys
 
-fed-parts : (f : Fed) (parts : List (List ℕ)) → feedParts f parts ≡ feedAll f (joined parts)
+fed-parts : (f : Progress) (parts : List (List ℕ)) → feedParts f parts ≡ feedAll f (joined parts)
 unfolding feedParts joined feedAll
 fed-parts f [] = refl
 fed-parts f (part ∷ parts) = fed-parts (feedAll f part) parts ∙ sym (fed-both f part (joined parts))

@@ -14,7 +14,7 @@ use Rattle.plate.specs.Notebook.{bookPutBy, bookPut, bookUndoOf, bookUndo, book
 use Rattle.plate.specs.Lists.{Byte, codes}
 use Rattle.records.specs.Text.{digitsBy, decimal, doneLine, headLine, cellText, rowText, rowsText, showText}
 use Rattle.records.specs.Record.{recordOf, itemsBy, itemsOf}
-use Rattle.records.specs.Run.{opens, answerText, pictureText, reportText, act, textFrom, text}
+use Rattle.records.specs.Run.{opens, answerText, pictureText, reportText, act, textFrom, paperText}
 use Rattle.records.specs.Machine.{machineText}
 use Rattle.records.proofs.statements.EndToEnd.{end-to-end}
 
@@ -40,8 +40,8 @@ printed =
     100 ∷ 111 ∷ 110 ∷ 101 ∷ 32 ∷ 54 ∷ 10 ∷
     []
 
-pub worked-text : text (codes input) ≡ printed
-unfolding text textFrom act opens itemsOf itemsBy recordOf sizesCheck refuseIf bookPut bookPutBy bookUndo bookUndoOf bookShowBy askCheck placeCheck kernelCheck reportText answerText pictureText showText headLine rowsText rowText cellText doneLine decimal digitsBy plainValues plainMattes plainSum listTo weight share area tap sum within shownValue shownMatte nearest
+pub worked-text : paperText (codes input) ≡ printed
+unfolding paperText textFrom act opens itemsOf itemsBy recordOf sizesCheck refuseIf bookPut bookPutBy bookUndo bookUndoOf bookShowBy askCheck placeCheck kernelCheck reportText answerText pictureText showText headLine rowsText rowText cellText doneLine decimal digitsBy plainValues plainMattes plainSum listTo weight share area tap sum within shownValue shownMatte nearest
 worked-text = refl
 
 -- so the machine writes it too

@@ -29,6 +29,10 @@ pub record CellsRoom (n i m : ℕ) (out values mattes : List ℕ) : Type 0 where
   pub values-room : i + m ≤ length values
   pub mattes-room : i + m ≤ length mattes
 
+-- and for a show of h rows of w cells, with its head
+abbrev pub ShowRoom : ℕ → ℕ → List ℕ → List ℕ → List ℕ → Type 0
+ShowRoom w h out values mattes = CellsRoom (lineRoom + rowsRoom w h) 0 (h * w) out values mattes
+
 -- the buffers of a request
 pub record PlateRoom (planes pixels : List ℕ) : Type 0 where
   pub planes-are : length planes ≡ planesRoom

@@ -6,6 +6,10 @@ use borrow.Author.Needs.{needs}
 use Rattle.records.proofs.machine.end.Statement.{statement}
 use Rattle.records.proofs.machine.end.Tie as tie
 
+-- where the call starts, seen from the test
+abbrev start : tie.After-struct-known → tie.Start
+start c = c .before .before
+
 stop-requires : tie.Need-stop-requires
 stop-requires c κs = search needs
 
@@ -14,7 +18,9 @@ same-length c = search needs
 
 returns : tie.Need-returns
 unfolding endText
-returns c = let m = c .before .before .before .before .before .before .before .args .m in rw (lt-ltb (m .held) (m .whole) (omega arith)) (c .before .before .stop .ensures .wrote)
+returns c =
+    let m = start (c .before .before .before .before .before) .args .m in
+    rw (lt-ltb (m .held) (m .whole) (omega arith)) (c .before .before .stop .ensures .wrote)
 
 done-requires : tie.Need-done-requires
 done-requires c κs = search needs
@@ -24,7 +30,9 @@ same-length-2 c = search needs
 
 returns-2 : tie.Need-returns-2
 unfolding endText
-returns-2 c = let m = c .before .before .before .before .before .before .before .args .m in rw (le-ltb (m .held) (m .whole) (omega arith)) (c .before .before .done .ensures)
+returns-2 c =
+    let m = start (c .before .before .before .before .before) .args .m in
+    rw (le-ltb (m .held) (m .whole) (omega arith)) (c .before .before .done .ensures)
 
 pub end-spec : {M : Type 1} → statement M
 end-spec =

@@ -24,7 +24,8 @@ returns-2 : tie.Need-returns-2
 unfolding finishCall finishOf
 returns-2 c =
     let a = c .before .before .before .before .args in (
-      rw (le-ltb (length (a .out .now)) textRoom (omega arith), ← c .before .ended .ensures, c .if2 .taken) (closing-nothing (a .out .now)),
+      rw (le-ltb (length (a .out .now)) textRoom (omega arith), ← c .before .ended .ensures, c .if2 .taken)
+          (closing-nothing (a .out .now)),
       omega arith,
     )
 
@@ -39,7 +40,12 @@ unfolding finishCall finishOf
 returns-3 c =
     let a = c .before .before .before .before .before .before .before .before .args in
     let said = closing-is (endText (a .m)) (c .before .before .end .ensures) in (
-      rw (le-ltb (length (a .out .now)) textRoom (omega arith), ← c .before .before .before .before .before .ended .ensures, c .before .before .before .before .if2 .left) said,
+      rw (
+        le-ltb (length (a .out .now)) textRoom (omega arith),
+        ← c .before .before .before .before .before .ended .ensures,
+        c .before .before .before .before .if2 .left,
+      )
+          said,
       closing-room _ _ (a .out .now) (endText (a .m)) said (c .before .before .end .kept .1 .0),
     )
 

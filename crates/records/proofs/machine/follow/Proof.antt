@@ -94,7 +94,9 @@ same-length-8 c = search needs
 
 returns-4 : tie.Need-returns-4
 unfolding fedBy
-returns-4 c = let h = completed c in rw (h .before .before .before .before .before .before .before .before .enum-told4 .given .1) (h .complete .ensures)
+returns-4 c =
+    let h = completed c in
+    rw (h .before .before .before .before .before .before .before .before .enum-told4 .given .1) (h .complete .ensures)
 
 pub follow-spec : {M : Type 1} → statement M
 follow-spec =

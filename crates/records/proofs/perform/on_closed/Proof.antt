@@ -16,7 +16,6 @@ start c = c .before .before .before .before
 abbrev held : tie.Start → Views → Buffers
 held s v = let a = s .args in joint (lent (a .planes .now) (a .pixels .now) (a .log .now)) v
 
-
 -- the call of an open
 abbrev opened : tie.After-slice-known8 → tie.After-open-on
 opened c = c .before .before .before .before .before .before .before .before

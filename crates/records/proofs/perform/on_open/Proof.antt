@@ -16,7 +16,6 @@ held s =
     let a = s .args in
     buffers (a .planes .now) (a .pixels .now) (a .log .now) (a .scratch .now) (a .values .now) (a .mattes .now)
 
-
 abbrev stroked : tie.After-slice-known12 → tie.After-change-on
 stroked c = c .before .before .before .before .before .before .before .before
 
@@ -94,7 +93,8 @@ returns-2 c =
     let h = stroked c in
     let s = start (h .before .before .before .before .before .before .before .before .before) in
     rw (h .before .before .before .before .before .before .before .item .given .1)
-    (served-as (answeredBy (s .args .k)) (held s) (h .change-on .result) (h .before .before .before .before .before .stroke-request .ensures) (h .change-on .ensures))
+    (served-as (answeredBy (s .args .k)) (held s) (h .change-on .result)
+    (h .before .before .before .before .before .stroke-request .ensures) (h .change-on .ensures))
 
 same-length-6 : tie.Need-same-length-6
 same-length-6 c = search needs
@@ -114,7 +114,8 @@ returns-3 c =
     let h = unshaped c in
     let s = start (h .before .before .before .before .before .before .before .before .before) in
     rw (h .before .before .before .before .before .before .before .item2 .given .1)
-    (served-as (answeredBy (s .args .k)) (held s) (h .change-on2 .result) (h .before .before .before .before .before .shapeless-request .ensures) (h .change-on2 .ensures))
+    (served-as (answeredBy (s .args .k)) (held s) (h .change-on2 .result)
+    (h .before .before .before .before .before .shapeless-request .ensures) (h .change-on2 .ensures))
 
 same-length-10 : tie.Need-same-length-10
 same-length-10 c = search needs

@@ -5,7 +5,6 @@ use borrow.Author.Needs.{needs}
 use Rattle.records.proofs.perform.open_on.Statement.{statement}
 use Rattle.records.proofs.perform.open_on.Tie as tie
 
-
 serve-requires : tie.Need-serve-requires
 serve-requires c κs = search needs
 

@@ -80,7 +80,8 @@ same-length-11 c = search needs
 
 returns-2 : tie.Need-returns-2
 returns-2 c =
-    let h = opened c in rw (h .before .before .before .before .before .before .before .before .before .stage .given .1) (h .on-open .ensures)
+    let h = opened c in
+    rw (h .before .before .before .before .before .before .before .before .before .stage .given .1) (h .on-open .ensures)
 
 returns-3 : tie.Need-returns-3
 unfolding recordOn

@@ -102,7 +102,8 @@ returns c =
     λ pixels log.
     show-is (a .k) (a .state) (buffers (a .planes .now) pixels log (a .scratch .now) (a .values .now) (a .mattes .now))
     (planesInAll * lends .result .cells) (scratchPlanes * lends .result .cells) (lends .result .places) (parts .result)
-    (ap (λ (n : ℕ). planesInAll * n) (lends .ensures .0)) (ap (λ (n : ℕ). scratchPlanes * n) (lends .ensures .0)) (lends .ensures .1) (parts .ensures)
+    (ap (λ (n : ℕ). planesInAll * n) (lends .ensures .0)) (ap (λ (n : ℕ). scratchPlanes * n) (lends .ensures .0))
+    (lends .ensures .1) (parts .ensures)
 
 pub show-on-spec : {M : Type 1} → statement M
 show-on-spec =

@@ -4,7 +4,7 @@ use native.Mathlib.Omega.{arith}
 use native.Mathlib.Nat.{mul-comm}
 use Rattle.plate.specs.Layout.{places}
 use Rattle.plate.specs.Lent.{views}
-use Rattle.records.proofs.lending.Rooms.{few}
+use Rattle.records.proofs.lending.Rooms.{has-room}
 use Rattle.records.proofs.lending.ShowFits.{few-shown, text-fits}
 use borrow.Author.Needs.{needs}
 use Rattle.records.proofs.perform.show_parts.Statement.{statement}
@@ -31,7 +31,7 @@ shown-requires c κs =
       λ e.
           let small = few-shown (a .state) (a .planes .now) (views (a .scratch .now) (a .values .now) (a .mattes .now)) (call .result)
           (call .ensures) (s .pre .planes-are) e in
-          let all = few z (places z) small in
+          let all = has-room z (places z) small in
           let turned = mul-comm (z .height) (z .width) in
           record {
             out-room = omega (arith, text-fits z small, s .pre .out-room);

@@ -14,7 +14,6 @@ puts c = c .before .before .before .before .before .before
 abbrev undoes : tie.After-slice-known12 → tie.After-undo
 undoes c = c .before .before .before .before .before .before
 
-
 enum-known-request : tie.Need-enum-known-request
 enum-known-request c = search needs
 

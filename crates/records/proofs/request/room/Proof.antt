@@ -1,12 +1,11 @@
 -- A side that is too long makes too many cells, and so no product here wraps.
 use mathlib.Core.Path.{sym}
-use Prim.Native.Nat.{_+_, _*_, _≤_, _<_}
+use Prim.Native.Nat.{_≤_, _<_}
 use native.Mathlib.Omega.{arith}
-use Rattle.plate.specs.Layout.{padded, places}
+use Rattle.plate.specs.Layout.{wide, high, padded, places}
 use Rattle.kernels.proofs.numbers.Products.{product-le}
-use Rattle.records.proofs.lending.Rooms.{few, none, long, tall}
+use Rattle.records.proofs.lending.Rooms.{has-room, no-room, long, tall}
 use Rattle.records.specs.Fixed.{cellsTop}
-use Rattle.plate.specs.Fixed.{border}
 use borrow.Author.Needs.{needs}
 use Rattle.records.proofs.request.room.Statement.{statement}
 use Rattle.records.proofs.request.room.Tie as tie
@@ -20,21 +19,21 @@ returns c =
     let a = c .before .before .args in
     let z = a .size in
     let many : cellsTop < padded z = long z (omega arith) in
-    (sym (none z (padded z) many), sym (none z (places z) many))
+    (sym (no-room z (padded z) many), sym (no-room z (places z) many))
 
 returns-2 : tie.Need-returns-2
 returns-2 c =
     let a = c .before .before .before .before .args in
     let z = a .size in
     let many : cellsTop < padded z = tall z (omega arith) in
-    (sym (none z (padded z) many), sym (none z (places z) many))
+    (sym (no-room z (padded z) many), sym (no-room z (places z) many))
 
 returns-3 : tie.Need-returns-3
 returns-3 c =
     let a = c .before .before .before .before .before .before .args in
     let z = a .size in
     let many : cellsTop < padded z = long z (omega arith) in
-    (sym (none z (padded z) many), sym (none z (places z) many))
+    (sym (no-room z (padded z) many), sym (no-room z (places z) many))
 
 mul-cells : tie.Need-mul-cells
 mul-cells c = search needs
@@ -59,7 +58,7 @@ mul-cells-3 c =
     let a = start (c .before .before .before) .args in
     omega (
       arith,
-      product-le (a .size .width + 2 * a .size .reach + border) (a .size .height + 2 * a .size .reach + border) 2048 2048 (omega arith) (omega arith),
+      product-le (wide (a .size)) (high (a .size)) 2048 2048 (omega arith) (omega arith),
     )
 
 returns-4 : tie.Need-returns-4
@@ -67,7 +66,7 @@ returns-4 c =
     let a = start (c .before .before .before .before) .args in
     let z = a .size in
     let many : cellsTop < padded z = omega arith in
-    (sym (none z (padded z) many), sym (none z (places z) many))
+    (sym (no-room z (padded z) many), sym (no-room z (places z) many))
 
 mul-t10 : tie.Need-mul-t10
 mul-t10 c = search needs
@@ -77,7 +76,7 @@ returns-5 c =
     let a = start (c .before .before .before .before .before) .args in
     let z = a .size in
     let few-cells : padded z ≤ cellsTop = omega arith in
-    (sym (few z (padded z) few-cells), sym (few z (places z) few-cells))
+    (sym (has-room z (padded z) few-cells), sym (has-room z (places z) few-cells))
 
 pub room-spec : {M : Type 1} → statement M
 room-spec =

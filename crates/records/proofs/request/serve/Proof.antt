@@ -27,7 +27,6 @@ cells-are c = c .before .room .ensures .0 ∙ ap cellsOf (c .before .before .siz
 places-are : (c : tie.After-struct-known) → c .before .room .result .places ≡ placesOf (asked c)
 places-are c = c .before .room .ensures .1 ∙ ap placesOf (c .before .before .size-of .ensures)
 
-
 size-of-requires : tie.Need-size-of-requires
 size-of-requires c κs = search needs
 

@@ -3,7 +3,6 @@ use borrow.Author.Needs.{needs}
 use Rattle.records.proofs.request.stroke_request.Statement.{statement}
 use Rattle.records.proofs.request.stroke_request.Tie as tie
 
-
 number-requires : tie.Need-number-requires
 number-requires c κs = search needs
 

@@ -91,7 +91,9 @@ returns c =
     let one = first two in
     let s = start one in
     record {
-      wrote = then-wrote (then-wrote (then-wrote (one .word .ensures) (two .spaced .ensures)) (three .spaced2 .ensures)) (four .byte .ensures);
+      wrote =
+          then-wrote (then-wrote (then-wrote (one .word .ensures) (two .spaced .ensures)) (three .spaced2 .ensures))
+          (four .byte .ensures);
       short = omega (
         arith,
         one .word .ensures .next-is,

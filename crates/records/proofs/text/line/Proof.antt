@@ -115,7 +115,8 @@ returns c =
     let three = third four in
     let two = second three in
     let one = first two in
-    then-wrote (then-wrote (then-wrote (then-wrote (one .word .ensures) (two .spaced .ensures)) (three .word2 .ensures)) (four .spaced2 .ensures)) (five .byte .ensures)
+    let start-wrote = then-wrote (then-wrote (one .word .ensures) (two .spaced .ensures)) (three .word2 .ensures) in
+    then-wrote (then-wrote start-wrote (four .spaced2 .ensures)) (five .byte .ensures)
 
 pub line-spec : {M : Type 1} → statement M
 line-spec =

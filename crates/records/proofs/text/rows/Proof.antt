@@ -33,7 +33,8 @@ row-requires c κs =
     let at = c .before .before in
     let start = at .before .before .before .before in
     let before = product-le (at .loop .y + 1) (start .args .w) (start .args .h) (start .args .w) (omega arith) (omega arith) in
-    let room = product-le (rowRoom (start .args .w) + 1) (at .loop .y + 1) (rowRoom (start .args .w) + 1) (start .args .h) (omega arith) (omega arith) in
+    let long = rowRoom (start .args .w) + 1 in
+    let room = product-le long (at .loop .y + 1) long (start .args .h) (omega arith) (omega arith) in
     record {
       out-room = omega (arith, start .pre .out-room);
       values-room = omega (arith, start .pre .values-room);
@@ -45,7 +46,8 @@ byte-requires c κs =
     let at = c .before .before .before .before .before .before in
     let start = at .before .before .before .before in
     let one = c .before .before .before .row in
-    let room = product-le (rowRoom (start .args .w) + 1) (at .loop .y + 1) (rowRoom (start .args .w) + 1) (start .args .h) (omega arith) (omega arith) in
+    let long = rowRoom (start .args .w) + 1 in
+    let room = product-le long (at .loop .y + 1) long (start .args .h) (omega arith) (omega arith) in
     omega (arith, one .kept .0, one .ensures .short, at .loop .inv .3, start .pre .out-room)
 
 add-from : tie.Need-add-from Inv-loop μ-loop
