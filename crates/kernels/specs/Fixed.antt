@@ -1,9 +1,13 @@
 -- The paper's numbers that stand in more than one place, each named once. The code's names for them are in src/fixed.rt.
 use Prim.Native.Nat.{ℕ, _*_}
 
--- "8,388,608": what a kernel's shares are parts of, and what a shown matte is counted in
+-- "The share s is 8,388,608 / A rounded down": what a kernel's shares are parts of. In code the table has the shares themselves.
 abbrev pub unit : ℕ
 unit = 8388608
+
+-- "matte / 8,388,608": what a shown matte is counted in
+abbrev pub matteUnit : ℕ
+matteUnit = 8388608
 
 -- the radii of a shape in the table of shares, 0 to 64
 abbrev pub radii : ℕ
@@ -34,9 +38,12 @@ thirdBox = 6
 abbrev pub margin : ℕ
 margin = 3
 
--- "value v 0 to 4,095, opacity a 0 to 255"
+-- "value v 0 to 4,095, opacity a 0 to 255", and a shown matte "at most 255"
 abbrev pub valueTop : ℕ
 valueTop = 4095
+
+abbrev pub opacityTop : ℕ
+opacityTop = 255
 
 abbrev pub matteTop : ℕ
 matteTop = 255

@@ -1,6 +1,6 @@
 -- Rounding.
 use Prim.Native.Nat.{ℕ, zero, suc, _+_, _*_, _/_, min}
-use Rattle.kernels.specs.Fixed.{unit, valueTop, matteTop}
+use Rattle.kernels.specs.Fixed.{matteUnit, valueTop, matteTop}
 
 -- a / b "to the nearest, a half upwards"
 unfoldable pub nearest : ℕ → ℕ → ℕ
@@ -13,4 +13,4 @@ shownValue light (suc m) = min valueTop (nearest light (suc m))
 
 -- "Shown matte: matte / 8,388,608 to the nearest, a half upwards, at most 255."
 unfoldable pub shownMatte : ℕ → ℕ
-shownMatte matte = min matteTop (nearest matte unit)
+shownMatte matte = min matteTop (nearest matte matteUnit)

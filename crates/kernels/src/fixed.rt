@@ -1,7 +1,7 @@
 // The paper's numbers that stand in more than one place, each named once, as in specs/Fixed.antt.
 
-// What a kernel's shares are parts of, and what a shown matte is counted in.
-pub const UNIT: u64 = 8388608;
+// What a shown matte is counted in.
+pub const MATTE_UNIT: u64 = 8388608;
 
 // The radii of a shape in the table of shares, 0 to 64; its shapes, and its rows.
 pub const RADII: usize = 65;

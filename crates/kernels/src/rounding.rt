@@ -1,6 +1,6 @@
 // Rounding to the nearest, a half upwards.
 use crate::fixed::MATTE_TOP;
-use crate::fixed::UNIT;
+use crate::fixed::MATTE_UNIT;
 use crate::fixed::VALUE_TOP;
 ghost use mathlib.Core.Path.{_≡_};
 ghost use Prim.Native.Nat.{_<_};
@@ -35,16 +35,16 @@ pub fn shown_value(light: u64, matte: u64) -> u16
 }
 
 // The least matte sum that shows the top without rounding, and half of what a shown matte is counted in.
-const WHOLE: u64 = MATTE_TOP as u64 * UNIT;
+const WHOLE: u64 = MATTE_TOP as u64 * MATTE_UNIT;
 
-const HALF: u64 = UNIT / 2;
+const HALF: u64 = MATTE_UNIT / 2;
 
 // The matte that a cell shows. Below the whole, adding a half does not wrap, and from there on it is the top.
 pub fn shown_matte(matte: u64) -> u8
     ensures { λ r. ⌜ r ≡ shownMatte matte ⌝ }
 {
     if matte < WHOLE {
-        return ((matte + HALF) / UNIT) as u8;
+        return ((matte + HALF) / MATTE_UNIT) as u8;
     }
     MATTE_TOP
 }

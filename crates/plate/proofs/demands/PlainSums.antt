@@ -22,7 +22,7 @@ use Rattle.plate.specs.Plain.{pixelAt, lightOf, matteOf, plainSum, gridC
 use Rattle.plate.specs.code.Bounds.{LawfulSize, Fits}
 use Rattle.plate.proofs.laying.Cells.{cell-lt, reach-under, laid, light-laid, matte-laid, laid-outside}
 use Rattle.plate.specs.Fixed.{planesInAll, placesTop}
-use Rattle.kernels.specs.Fixed.{matteTop, valueTop, planesEach, margin, unit}
+use Rattle.kernels.specs.Fixed.{opacityTop, valueTop, planesEach, margin, unit}
 use Rattle.plate.specs.Kernel.{weightOf}
 
 -- THE PLAIN SUMS DO NOT WRAP
@@ -44,11 +44,11 @@ plain-le z grid worth c i law top =
 pub no-wrap : (z : Size) (grid : List Pixel) → LawfulSize z → ((j : ℕ) → Fits (z .reach) (pixelAt grid j)) → (i : ℕ)
     → (plainSum z grid lightOf i < 2 ^ 64) × (plainSum z grid matteOf i < 2 ^ 64)
 no-wrap z grid law fits i = (
-  omega (arith, plain-le z grid lightOf (valueTop * matteTop) i law (λ j. product-le _ _ valueTop matteTop (fits j .value-fits) (byte j))),
-  omega (arith, plain-le z grid matteOf matteTop i law byte),
+  omega (arith, plain-le z grid lightOf (valueTop * opacityTop) i law (λ j. product-le _ _ valueTop opacityTop (fits j .value-fits) (byte j))),
+  omega (arith, plain-le z grid matteOf opacityTop i law byte),
 )
   where
-    byte : (j : ℕ) → pixelAt grid j .opacity ≤ matteTop
+    byte : (j : ℕ) → pixelAt grid j .opacity ≤ opacityTop
     byte j = omega (arith, fits j .opacity-fits)
 
 -- THE FINISHED SUMS ARE THE PLAIN SUMS
