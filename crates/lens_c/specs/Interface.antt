@@ -29,12 +29,18 @@ pub record LeftOut : Type 0 where
   pub answer : LensAnswer
   pub kept : Lent
 
+abbrev pub leavesOut : LensAnswer → Lent → LeftOut
+leavesOut a l = record { answer = a; kept = l }
+
 abbrev pub leftOut : Left → LeftOut
-leftOut l = record { answer = answerOut (l .answer); kept = l .kept }
+leftOut l = leavesOut (answerOut (l .answer)) (l .kept)
 
 pub record ShownOut : Type 0 where
   pub answer : LensAnswer
   pub seen : Views
 
+abbrev pub showsOut : LensAnswer → Views → ShownOut
+showsOut a v = record { answer = a; seen = v }
+
 abbrev pub shownOut : Shown → ShownOut
-shownOut s = record { answer = answerOut (s .answer); seen = s .seen }
+shownOut s = showsOut (answerOut (s .answer)) (s .seen)

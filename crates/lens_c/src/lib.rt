@@ -1,9 +1,9 @@
 // The C interface of the plate: the same calls in the same order, a slice as pointer then length. include/lens.h declares it.
 ghost use mathlib.Core.Path.{_≡_};
 ghost use Rattle.plate.specs.Layout.{sizeFrom};
-ghost use Rattle.plate.specs.Lent.{lent, ask, inputs, views};
+ghost use Rattle.plate.specs.Lent.{ask, inputs, lentAtEntry, lentAtExit, viewsAtEntry, viewsAtExit};
 ghost use Rattle.plate.specs.Calls.{openCall, putCall, undoCall, fillCall, showCall};
-ghost use Rattle.lens_c.specs.Interface.{stateIn, lensIn, answerOut, LeftOut, leftOut, ShownOut, shownOut};
+ghost use Rattle.lens_c.specs.Interface.{stateIn, lensIn, answerOut, leftOut, shownOut, leavesOut, showsOut};
 use kernels::Lens;
 use plate::Answer;
 use plate::Size;
@@ -71,7 +71,7 @@ pub extern "C" fn lens_open(
     pixels: &mut [u64],
     log: &mut [u64],
 ) -> LensAnswer
-    ensures { λ r. ⌜ _≡_ {A = LeftOut} (record { answer = r; kept = lent (now (planes .exit)) (now (pixels .exit)) (now (log .exit)) }) (leftOut (openCall (sizeFrom width height reach) (lent (now (planes .entry)) (now (pixels .entry)) (now (log .entry))))) ⌝ }
+    ensures { λ r. ⌜ leavesOut r (lentAtExit planes pixels log) ≡ leftOut (openCall (sizeFrom width height reach) (lentAtEntry planes pixels log)) ⌝ }
 {
     answer_out(plate::open::open(width, height, reach, planes, pixels, log))
 }
@@ -89,7 +89,7 @@ pub extern "C" fn lens_put(
     pixels: &mut [u64],
     log: &mut [u64],
 ) -> LensAnswer
-    ensures { λ r. ⌜ _≡_ {A = LeftOut} (record { answer = r; kept = lent (now (planes .exit)) (now (pixels .exit)) (now (log .exit)) }) (leftOut (putCall (stateIn state) (ask x y value opacity shape radius) (lent (now (planes .entry)) (now (pixels .entry)) (now (log .entry))))) ⌝ }
+    ensures { λ r. ⌜ leavesOut r (lentAtExit planes pixels log) ≡ leftOut (putCall (stateIn state) (ask x y value opacity shape radius) (lentAtEntry planes pixels log)) ⌝ }
 {
     answer_out(plate::put::put(
         state_in(state),
@@ -112,7 +112,7 @@ pub extern "C" fn lens_undo(
     pixels: &mut [u64],
     log: &mut [u64],
 ) -> LensAnswer
-    ensures { λ r. ⌜ _≡_ {A = LeftOut} (record { answer = r; kept = lent (now (planes .exit)) (now (pixels .exit)) (now (log .exit)) }) (leftOut (undoCall (stateIn state) (lent (now (planes .entry)) (now (pixels .entry)) (now (log .entry))))) ⌝ }
+    ensures { λ r. ⌜ leavesOut r (lentAtExit planes pixels log) ≡ leftOut (undoCall (stateIn state) (lentAtEntry planes pixels log)) ⌝ }
 {
     answer_out(plate::undo::undo(state_in(state), planes, pixels, log))
 }
@@ -129,7 +129,7 @@ pub extern "C" fn lens_fill(
     pixels: &mut [u64],
     log: &mut [u64],
 ) -> LensAnswer
-    ensures { λ r. ⌜ _≡_ {A = LeftOut} (record { answer = r; kept = lent (now (planes .exit)) (now (pixels .exit)) (now (log .exit)) }) (leftOut (fillCall (stateIn state) (lensIn lens) shape (inputs (now (values .entry)) (now (opacities .entry)) (now (depths .entry))) (lent (now (planes .entry)) (now (pixels .entry)) (now (log .entry))))) ⌝ }
+    ensures { λ r. ⌜ leavesOut r (lentAtExit planes pixels log) ≡ leftOut (fillCall (stateIn state) (lensIn lens) shape (inputs (now (values .entry)) (now (opacities .entry)) (now (depths .entry))) (lentAtEntry planes pixels log)) ⌝ }
 {
     let through = Lens {
         opening: lens.opening,
@@ -158,7 +158,7 @@ pub extern "C" fn lens_show(
     values: &mut [u16],
     mattes: &mut [u8],
 ) -> LensAnswer
-    ensures { λ r. ⌜ _≡_ {A = ShownOut} (record { answer = r; seen = views (now (scratch .exit)) (now (values .exit)) (now (mattes .exit)) }) (shownOut (showCall (stateIn state) (now (planes .entry)) (views (now (scratch .entry)) (now (values .entry)) (now (mattes .entry))))) ⌝ }
+    ensures { λ r. ⌜ showsOut r (viewsAtExit scratch values mattes) ≡ shownOut (showCall (stateIn state) (now (planes .entry)) (viewsAtEntry scratch values mattes)) ⌝ }
 {
     answer_out(plate::show::show(state_in(state), planes, scratch, values, mattes))
 }

@@ -23,15 +23,18 @@ pub record Left : Type 0 where
   pub answer : Answer
   pub kept : Lent
 
+abbrev pub leaves : Answer → Lent → Left
+leaves a l = record { answer = a; kept = l }
+
 abbrev pub left : Answer → List ℕ → List ℕ → List ℕ → Left
-left a planes pixels log = record { answer = a; kept = lent planes pixels log }
+left a planes pixels log = leaves a (lent planes pixels log)
 
 abbrev pub answerOf : Outcome → ℕ → State → Answer
 answerOf o n s = record { outcome = o; marks = n; state = s }
 
 -- "A refusal returns its number and mark count 0, the state is handed back unchanged .., every buffer untouched."
 abbrev pub refused : Refusal → State → Lent → Left
-refused f s l = record { answer = answerOf (Refused f) 0 s; kept = l }
+refused f s l = leaves (answerOf (Refused f) 0 s) l
 
 abbrev pub zeros : ℕ → List ℕ
 zeros n = replicate n 0
@@ -119,12 +122,15 @@ pub record Shown : Type 0 where
   pub answer : Answer
   pub seen : Views
 
+abbrev pub shows : Answer → Views → Shown
+shows a v = record { answer = a; seen = v }
+
 abbrev pub shown : Answer → List ℕ → List ℕ → List ℕ → Shown
-shown a scratch values mattes = record { answer = a; seen = views scratch values mattes }
+shown a scratch values mattes = shows a (views scratch values mattes)
 
 -- "Show writes values and mattes and leaves scratch all zero."
 unfoldable pub showBy : Outcome → State → List ℕ → Views → Shown
-showBy (Refused f) s planes v = record { answer = answerOf (Refused f) 0 s; seen = v }
+showBy (Refused f) s planes v = shows (answerOf (Refused f) 0 s) v
 showBy Accepted s planes v =
     let z = s .size in
     shown (answerOf Accepted 0 s)

@@ -2,6 +2,8 @@
 use mathlib.Core.List.{List}
 use Prim.Native.Nat.{ℕ}
 use lib.ListN.{length}
+use denote.Ref.{RefT, now}
+use denote.Triple.Both.{Both}
 use Rattle.plate.specs.Layout.{Size}
 pub use Rattle.plate.specs.declared.state.State.{State}
 pub use Rattle.plate.specs.declared.lent.Ask.{Ask}
@@ -48,3 +50,20 @@ pub record Views : Type 0 where
 
 abbrev pub views : List ℕ → List ℕ → List ℕ → Views
 views scratch values mattes = record { scratch = scratch; values = values; mattes = mattes }
+
+-- AT A CALL'S START AND END
+-- a buffer that a call may write to, as it is when the call starts and when it ends
+abbrev pub Borrowed : Type 0
+Borrowed = Both (RefT (List ℕ)) (RefT (List ℕ))
+
+abbrev pub lentAtEntry : Borrowed → Borrowed → Borrowed → Lent
+lentAtEntry planes pixels log = lent (now (planes .entry)) (now (pixels .entry)) (now (log .entry))
+
+abbrev pub lentAtExit : Borrowed → Borrowed → Borrowed → Lent
+lentAtExit planes pixels log = lent (now (planes .exit)) (now (pixels .exit)) (now (log .exit))
+
+abbrev pub viewsAtEntry : Borrowed → Borrowed → Borrowed → Views
+viewsAtEntry scratch values mattes = views (now (scratch .entry)) (now (values .entry)) (now (mattes .entry))
+
+abbrev pub viewsAtExit : Borrowed → Borrowed → Borrowed → Views
+viewsAtExit scratch values mattes = views (now (scratch .exit)) (now (values .exit)) (now (mattes .exit))

@@ -8,8 +8,8 @@ use crate::state::State;
 use crate::state::refused;
 use kernels::Lens;
 ghost use mathlib.Core.Path.{_≡_};
-ghost use Rattle.plate.specs.Lent.{lent, inputs};
-ghost use Rattle.plate.specs.Calls.{left, fillCall};
+ghost use Rattle.plate.specs.Lent.{inputs, lentAtEntry, lentAtExit};
+ghost use Rattle.plate.specs.Calls.{fillCall, leaves};
 
 // Replaces all pixels and empties the log. A refused fill touches nothing and hands the state back.
 pub fn fill(
@@ -23,7 +23,7 @@ pub fn fill(
     pixels: &mut [u64],
     log: &mut [u64],
 ) -> Answer
-    ensures { λ r. ⌜ left r (now (planes .exit)) (now (pixels .exit)) (now (log .exit)) ≡ fillCall state lens shape (inputs (now (values .entry)) (now (opacities .entry)) (now (depths .entry))) (lent (now (planes .entry)) (now (pixels .entry)) (now (log .entry))) ⌝ }
+    ensures { λ r. ⌜ leaves r (lentAtExit planes pixels log) ≡ fillCall state lens shape (inputs (now (values .entry)) (now (opacities .entry)) (now (depths .entry))) (lentAtEntry planes pixels log) ⌝ }
 {
     let lengths = Sized {
         planes: planes.len(),

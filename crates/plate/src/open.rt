@@ -10,8 +10,8 @@ use crate::state::refused;
 use crate::state::state_of;
 ghost use mathlib.Core.Path.{_≡_};
 ghost use Rattle.plate.specs.Layout.{sizeFrom};
-ghost use Rattle.plate.specs.Lent.{lent};
-ghost use Rattle.plate.specs.Calls.{left, openCall};
+ghost use Rattle.plate.specs.Lent.{lentAtEntry, lentAtExit};
+ghost use Rattle.plate.specs.Calls.{openCall, leaves};
 
 // Sets planes, pixels, every log entry and the log count to 0. A refused open touches nothing and hands back a state of zeros.
 pub fn open(
@@ -22,7 +22,7 @@ pub fn open(
     pixels: &mut [u64],
     log: &mut [u64],
 ) -> Answer
-    ensures { λ r. ⌜ left r (now (planes .exit)) (now (pixels .exit)) (now (log .exit)) ≡ openCall (sizeFrom width height reach) (lent (now (planes .entry)) (now (pixels .entry)) (now (log .entry))) ⌝ }
+    ensures { λ r. ⌜ leaves r (lentAtExit planes pixels log) ≡ openCall (sizeFrom width height reach) (lentAtEntry planes pixels log) ⌝ }
 {
     let size = Size {
         width: width,

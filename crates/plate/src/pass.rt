@@ -2,7 +2,7 @@
 // scratch: a row of cells, or one cell for each line of a slope.
 ghost use mathlib.Core.Path.{_≡_};
 ghost use Prim.Native.Nat.{_+_, _%_, _^_, _<_};
-ghost use lib.ListN.{length, getD};
+ghost use lib.ListN.{length};
 ghost use Rattle.plate.specs.code.Passes.{sumsEnd, marksEnd, startsAt, matteAfter, Added, LinesIn, MarksOn, MarksOff, BoxesIn, BoxesMet, InOrder, RowSummed, RowLaid, LayReady, RowReady, Summed};
 use kernels::fixed::LEVEL;
 use kernels::fixed::PLANES_EACH;

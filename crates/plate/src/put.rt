@@ -9,9 +9,9 @@ use crate::state::State;
 use crate::state::refused;
 use crate::word::pack_entry;
 ghost use mathlib.Core.Path.{_≡_};
-ghost use Rattle.plate.specs.Lent.{ask, lent};
+ghost use Rattle.plate.specs.Lent.{ask, lent, lentAtEntry, lentAtExit};
 ghost use Rattle.plate.specs.Change.{ToChange};
-ghost use Rattle.plate.specs.Calls.{left, putBy, putCall};
+ghost use Rattle.plate.specs.Calls.{putBy, putCall, leaves};
 ghost use Rattle.plate.specs.code.Changing.{PutReady};
 
 // Logs the word at the place, and sets the new pixel there.
@@ -23,7 +23,7 @@ fn log_and_exchange(
     log: &mut [u64],
 ) -> Answer
     requires { ⌜ PutReady state change (lent (now planes) (now pixels) (now log)) ⌝ }
-    ensures { λ r. ⌜ left r (now (planes .exit)) (now (pixels .exit)) (now (log .exit)) ≡ putBy (ToChange change) state (lent (now (planes .entry)) (now (pixels .entry)) (now (log .entry))) ⌝ }
+    ensures { λ r. ⌜ leaves r (lentAtExit planes pixels log) ≡ putBy (ToChange change) state (lentAtEntry planes pixels log) ⌝ }
 {
     let place = change.place;
     let count = state.count;
@@ -44,7 +44,7 @@ pub fn put(
     pixels: &mut [u64],
     log: &mut [u64],
 ) -> Answer
-    ensures { λ r. ⌜ left r (now (planes .exit)) (now (pixels .exit)) (now (log .exit)) ≡ putCall state (ask x y value opacity shape radius) (lent (now (planes .entry)) (now (pixels .entry)) (now (log .entry))) ⌝ }
+    ensures { λ r. ⌜ leaves r (lentAtExit planes pixels log) ≡ putCall state (ask x y value opacity shape radius) (lentAtEntry planes pixels log) ⌝ }
 {
     let asked = Ask {
         x: x,

@@ -2,8 +2,8 @@
 // of the image at once, so that no picture's sums are ever stored.
 ghost use mathlib.Core.Path.{_≡_};
 ghost use Prim.Native.Nat.{_+_};
-ghost use Rattle.plate.specs.Lent.{views};
-ghost use Rattle.plate.specs.Calls.{shown, showCall};
+ghost use Rattle.plate.specs.Lent.{viewsAtEntry, viewsAtExit};
+ghost use Rattle.plate.specs.Calls.{showCall, shows};
 ghost use Rattle.plate.specs.code.Bounds.{LawfulSize};
 ghost use Rattle.plate.specs.code.Showing.{lightPicture, BothIn, AboveReady, BothReady, BothSummed, RowIn, RowShown, ImageReady, ShownTo, ShowReady, ShowDone};
 use crate::check::check_show;
@@ -140,7 +140,7 @@ fn show_all(
     mattes: &mut [u8],
 )
     requires { ⌜ ShowReady (state .size) (now planes) (now scratch) (now values) (now mattes) ⌝ }
-    ensures { λ _. ⌜ ShowDone state (now (planes .entry)) (views (now (scratch .entry)) (now (values .entry)) (now (mattes .entry))) (views (now (scratch .exit)) (now (values .exit)) (now (mattes .exit))) ⌝ }
+    ensures { λ _. ⌜ ShowDone state (now (planes .entry)) (viewsAtEntry scratch values mattes) (viewsAtExit scratch values mattes) ⌝ }
 {
     let size = state.size;
     let light = light_picture(size);
@@ -162,7 +162,7 @@ pub fn show(
     values: &mut [u16],
     mattes: &mut [u8],
 ) -> Answer
-    ensures { λ r. ⌜ shown r (now (scratch .exit)) (now (values .exit)) (now (mattes .exit)) ≡ showCall state (now (planes .entry)) (views (now (scratch .entry)) (now (values .entry)) (now (mattes .entry))) ⌝ }
+    ensures { λ r. ⌜ shows r (viewsAtExit scratch values mattes) ≡ showCall state (now (planes .entry)) (viewsAtEntry scratch values mattes) ⌝ }
 {
     let outcome = check_show(
         state,

@@ -7,9 +7,9 @@ use crate::state::Answer;
 use crate::state::State;
 use crate::state::refused;
 ghost use mathlib.Core.Path.{_≡_};
-ghost use Rattle.plate.specs.Lent.{lent};
+ghost use Rattle.plate.specs.Lent.{lent, lentAtEntry, lentAtExit};
 ghost use Rattle.plate.specs.Change.{ToChange};
-ghost use Rattle.plate.specs.Calls.{left, undoBy, undoCall};
+ghost use Rattle.plate.specs.Calls.{undoBy, undoCall, leaves};
 ghost use Rattle.plate.specs.code.Changing.{UndoReady};
 
 // Zeroes the last log entry, and puts the logged pixel back in its place.
@@ -21,7 +21,7 @@ fn unlog_and_exchange(
     log: &mut [u64],
 ) -> Answer
     requires { ⌜ UndoReady state change (lent (now planes) (now pixels) (now log)) ⌝ }
-    ensures { λ r. ⌜ left r (now (planes .exit)) (now (pixels .exit)) (now (log .exit)) ≡ undoBy (ToChange change) state (lent (now (planes .entry)) (now (pixels .entry)) (now (log .entry))) ⌝ }
+    ensures { λ r. ⌜ leaves r (lentAtExit planes pixels log) ≡ undoBy (ToChange change) state (lentAtEntry planes pixels log) ⌝ }
 {
     let count = state.count;
     let last = count - 1;
@@ -31,7 +31,7 @@ fn unlog_and_exchange(
 
 // Reads the last log entry, then zeroes it, and puts the logged pixel back in its place. A refused undo touches nothing.
 pub fn undo(state: State, planes: &mut [u64], pixels: &mut [u64], log: &mut [u64]) -> Answer
-    ensures { λ r. ⌜ left r (now (planes .exit)) (now (pixels .exit)) (now (log .exit)) ≡ undoCall state (lent (now (planes .entry)) (now (pixels .entry)) (now (log .entry))) ⌝ }
+    ensures { λ r. ⌜ leaves r (lentAtExit planes pixels log) ≡ undoCall state (lentAtEntry planes pixels log) ⌝ }
 {
     match read_undo(state, planes.len(), pixels, log) {
         ChangeRead::ToChange(change) => unlog_and_exchange(state, change, planes, pixels, log),

@@ -4,8 +4,7 @@ use mathlib.Core.Path.{_≡_}
 use mathlib.Core.Bool.{Bool, true, false}
 use mathlib.Core.List.{List, [], _∷_, _++_}
 use Prim.Native.Nat.{ℕ, _+_, _*_, _-_, _^_, _<_}
-use denote.Ref.{RefT, now}
-use denote.Triple.Both.{Both}
+use denote.Ref.{now}
 use lib.Dec.{ltb, eqb}
 use lib.ListN.{length, take, drop, set}
 use Rattle.kernels.specs.Choice.{pick}
@@ -18,7 +17,7 @@ use Rattle.plate.specs.declared.state.Outcome.{Outcome}
 use Rattle.plate.specs.declared.state.Outcome.the-variants.{Accepted, Refused}
 use Rattle.plate.specs.Refusal.{refusalNumber, outcomeNumber}
 use Rattle.plate.specs.declared.lent.Ask.{Ask}
-use Rattle.plate.specs.Lent.{Lent, lent, Views, views}
+use Rattle.plate.specs.Lent.{Lent, lent, Views, views, Borrowed}
 use Rattle.plate.specs.Calls.{Left, openCall, putCall, undoCall, showCall, zeros}
 use Rattle.plate.specs.Lists.{Byte, codes}
 use Rattle.records.specs.Fixed.{cellsTop, planesRoom, scratchRoom, logRoom, longestBody, textRoom}
@@ -49,9 +48,6 @@ buffers planes pixels log scratch values mattes =
     record { planes = planes; pixels = pixels; log = log; scratch = scratch; values = values; mattes = mattes }
 
 -- those that a call is lent, as they are when it starts and when it ends
-abbrev pub Borrowed : Type 0
-Borrowed = Both (RefT (List ℕ)) (RefT (List ℕ))
-
 abbrev pub atEntry : Borrowed → Borrowed → Borrowed → Borrowed → Borrowed → Borrowed → Buffers
 atEntry planes pixels log scratch values mattes =
     buffers (now (planes .entry)) (now (pixels .entry)) (now (log .entry))

@@ -21,7 +21,7 @@ ghost use Rattle.plate.specs.Refusal.{outcomeNumber};
 ghost use Rattle.plate.specs.Calls.{showCall};
 ghost use Rattle.records.specs.Fixed.{textRoom};
 ghost use Rattle.records.specs.Machine.{atEntry, atExit, Closed, Opened, ToOpen, stoppedBy, openedBy, answeredBy, shownBy, showOn, recordOn};
-ghost use Rattle.records.specs.code.Borrows.{plateAtEntry, plateAtExit, viewsAtEntry, viewsAtExit};
+ghost use Rattle.plate.specs.Lent.{lentAtEntry, lentAtExit, viewsAtEntry, viewsAtExit};
 ghost use Rattle.records.specs.code.Room.{ShowRoom, PlateRoom, PictureRoom, PartRoom, AllRoom};
 ghost use Rattle.records.specs.code.Done.{doneWith, doneOf, Says, Served, ShowDone, PlateDone, ViewsDone};
 
@@ -90,7 +90,7 @@ fn change_on(
 ) -> Done
     requires { ⌜ PlateRoom (now planes) (now pixels) ⌝ }
     requires { ⌜ textRoom ≤ length (now out) ⌝ }
-    ensures { λ r. ⌜ Served (answeredBy k) request (plateAtEntry planes pixels log) (plateAtExit planes pixels log) r (now (out .entry)) (now (out .exit)) ⌝ }
+    ensures { λ r. ⌜ Served (answeredBy k) request (lentAtEntry planes pixels log) (lentAtExit planes pixels log) r (now (out .entry)) (now (out .exit)) ⌝ }
 {
     let a = serve(request, planes, pixels, log);
     answered(a, k, out)
@@ -127,7 +127,7 @@ fn open_on(
 ) -> Done
     requires { ⌜ PlateRoom (now planes) (now pixels) ⌝ }
     requires { ⌜ textRoom ≤ length (now out) ⌝ }
-    ensures { λ r. ⌜ Served (openedBy k) (ToOpen size) (plateAtEntry planes pixels log) (plateAtExit planes pixels log) r (now (out .entry)) (now (out .exit)) ⌝ }
+    ensures { λ r. ⌜ Served (openedBy k) (ToOpen size) (lentAtEntry planes pixels log) (lentAtExit planes pixels log) r (now (out .entry)) (now (out .exit)) ⌝ }
 {
     let a = serve(Request::ToOpen(size), planes, pixels, log);
     opened(a, k, out)
@@ -207,7 +207,7 @@ fn on_closed(
 ) -> Done
     requires { ⌜ PlateRoom (now planes) (now pixels) ⌝ }
     requires { ⌜ textRoom ≤ length (now out) ⌝ }
-    ensures { λ r. ⌜ PlateDone (recordOn k Closed item) (plateAtEntry planes pixels log) (plateAtExit planes pixels log) r (now (out .entry)) (now (out .exit)) ⌝ }
+    ensures { λ r. ⌜ PlateDone (recordOn k Closed item) (lentAtEntry planes pixels log) (lentAtExit planes pixels log) r (now (out .entry)) (now (out .exit)) ⌝ }
 {
     match item {
         Record::Open(size) => open_on(size, k, planes, pixels, log, out),

@@ -10,10 +10,10 @@ use plate::fixed::PLANES;
 use plate::lent::Ask;
 use plate::size::Size;
 ghost use mathlib.Core.Path.{_≡_};
-ghost use Rattle.plate.specs.Calls.{left};
+ghost use Rattle.plate.specs.Calls.{leaves};
 ghost use Rattle.records.specs.Record.{strokeAsk, shapelessAsk};
 ghost use Rattle.records.specs.Machine.{cellsOf, placesOf, putRequest, requestSize, requestCall, requested};
-ghost use Rattle.records.specs.code.Borrows.{plateAtEntry};
+ghost use Rattle.plate.specs.Lent.{lentAtEntry, lentAtExit};
 ghost use Rattle.records.specs.code.Room.{PlateRoom};
 
 // A put: the plate's state, and what is asked of it.
@@ -110,7 +110,7 @@ fn size_of(request: Request) -> Size
 
 // The call of the plate, on just what it wants.
 fn call(request: Request, planes: &mut [u64], pixels: &mut [u64], log: &mut [u64]) -> Answer
-    ensures { λ r. ⌜ left r (now (planes .exit)) (now (pixels .exit)) (now (log .exit)) ≡ requestCall request (plateAtEntry planes pixels log) ⌝ }
+    ensures { λ r. ⌜ leaves r (lentAtExit planes pixels log) ≡ requestCall request (lentAtEntry planes pixels log) ⌝ }
 {
     match request {
         Request::ToOpen(size) => plate::open::open(
@@ -149,7 +149,7 @@ pub(crate) fn serve(
     log: &mut [u64],
 ) -> Answer
     requires { ⌜ PlateRoom (now planes) (now pixels) ⌝ }
-    ensures { λ r. ⌜ left r (now (planes .exit)) (now (pixels .exit)) (now (log .exit)) ≡ requested request (plateAtEntry planes pixels log) ⌝ }
+    ensures { λ r. ⌜ leaves r (lentAtExit planes pixels log) ≡ requested request (lentAtEntry planes pixels log) ⌝ }
 {
     let lends = room(size_of(request));
     let cells = PLANES * lends.cells;
