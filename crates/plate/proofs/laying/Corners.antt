@@ -122,7 +122,8 @@ module _ (f : Frame) (n x y : ℕ) (p : Pixel) (placed : Placed f n x y p) where
       let row = placed .row-in in
       rw (placed .framed) (place-within (x + s) (y + s) (wide z) (high z) (omega arith) (omega arith))
 
-  module _ (ms : List Mark) (drawn : ms ≡ tapMarks (p .shape) (p .radius) (reachOf (p .shape) (p .radius) + margin) (reachOf (p .shape) (p .radius) + margin)) where
+  module _ (ms : List Mark)
+      (drawn : let n = reachOf (p .shape) (p .radius) in ms ≡ tapMarks (p .shape) (p .radius) (n + margin) (n + margin)) where
     pub kernel-laid : (w : Worth) (cells : List ℕ)
         → layDrawn (groundAt f x y p) w cells ms ≡ layAll (f .size) cells (kernelAt f x y p w)
     kernel-laid w cells =
@@ -142,7 +143,8 @@ module _ (f : Frame) (n x y : ℕ) (p : Pixel) (placed : Placed f n x y p) where
         let row = row-at z x y right in
         rw (placed .framed)
         (near-inside z _ _ (share (p .shape) (p .radius)) (R + margin) X Y (omega arith) (omega arith) ms
-        (rw (around z x y (p .shape) (p .radius) ms right reaches drawn) at (marks-near (p .shape) (p .radius) R X Y reaches (omega arith) (omega arith))))
+        (rw (around z x y (p .shape) (p .radius) ms right reaches drawn) at
+        (marks-near (p .shape) (p .radius) R X Y reaches (omega arith) (omega arith))))
 
 -- PIXELS
 -- the share goes into the worth

@@ -161,16 +161,20 @@ factors w n i j = rw (alike (w .light), alike (w .matte))
         rw (e, d)
         (cong-mul (2 ^ 64) (a * (choose n i * choose n j)) _ (sign i * sign j) (sign (i + j)) refl (sym (sign-add i j)))
 
+-- the mark in row j of a column of a grid of n boxes of l cells; the column is number i, at x
+abbrev gridMark : ℕ → ℕ → ℕ → ℕ → ℕ → ℕ → List Mark
+gridMark p n l x i j = mark p x (margin + j * l) (sign (i + j) * (choose n i * choose n j)) ∷ []
+
 -- a column as the grid has it, and as the code lays it
 pub column-drawn : (g : Ground) (w : Worth) (cells : List ℕ) (p n l x i k : ℕ)
     → layDrawn g w cells (gridColumn p n l x (factor n i) k)
-    ≡ layDrawn g w cells (marksTo (λ j. mark p x (margin + j * l) (sign (i + j) * (choose n i * choose n j)) ∷ []) k)
+    ≡ layDrawn g w cells (marksTo (gridMark p n l x i) k)
 unfolding gridColumn marksTo layDrawn
 column-drawn g w cells p n l x i zero = refl
 column-drawn g w cells p n l x i (suc k) =
     rw (
       drawn-append g w cells (gridColumn p n l x (factor n i) k) _,
-      drawn-append g w cells (marksTo (λ j. mark p x (margin + j * l) (sign (i + j) * (choose n i * choose n j)) ∷ []) k) _,
+      drawn-append g w cells (marksTo (gridMark p n l x i) k) _,
       column-drawn g w cells p n l x i k,
       factors w n i k,
     )
@@ -197,20 +201,17 @@ pub columns-in : (g : Ground) (p n l i : ℕ) → i ≤ n → AllIn g (boxGrid p
     → AllIn g (gridColumn p n l (margin + i * l) 1 (suc n)) × (margin + n * l < planesEach * g .padded)
 unfolding boxGrid gridColumn
 columns-in g p n l i h a =
-    let column : ℕ → List Mark = λ i. marksTo (λ j. mark p (margin + i * l) (margin + j * l) (sign (i + j) * (choose n i * choose n j)) ∷ []) (suc n) in (
+    let column : ℕ → List Mark = λ i. marksTo (gridMark p n l (margin + i * l) i) (suc n) in (
       column-alike g p l (margin + i * l) _ _ (suc n) (inside-to g column (suc n) i (omega arith) a),
       first-in (inside-to g column (suc n) n (omega arith) a),
     )
   where
-    spot-in : AllIn g (mark p (margin + n * l) (margin + 0 * l) (sign (n + 0) * (choose n n * choose n 0)) ∷ [])
+    spot-in : AllIn g (gridMark p n l (margin + n * l) n 0)
         → margin + n * l < planesEach * g .padded
     spot-in q = unfold AllIn in (omega (arith, q .0))
 
-    first-in : AllIn g (marksTo (λ j. mark p (margin + n * l) (margin + j * l) (sign (n + j) * (choose n n * choose n j)) ∷ []) (suc n))
-        → margin + n * l < planesEach * g .padded
-    first-in h =
-        let q = inside-to g (λ j. mark p (margin + n * l) (margin + j * l) (sign (n + j) * (choose n n * choose n j)) ∷ []) (suc n) 0 (omega arith) h in
-        spot-in q
+    first-in : AllIn g (marksTo (gridMark p n l (margin + n * l) n) (suc n)) → margin + n * l < planesEach * g .padded
+    first-in h = spot-in (inside-to g (gridMark p n l (margin + n * l) n) (suc n) 0 (omega arith) h)
 
 -- a mark of a column inside
 pub mark-in : (g : Ground) (p n l x j : ℕ) → j ≤ n → AllIn g (gridColumn p n l x 1 (suc n))
@@ -225,9 +226,7 @@ mark-in g p n l x j h a =
 -- the first k columns of a grid
 abbrev pub gridTo : Boxes → ℕ → List Mark
 gridTo b k =
-    marksTo
-    (λ i. marksTo (λ j. mark (b .plane) (margin + i * b .side) (margin + j * b .side) (sign (i + j) * (choose (b .count) i * choose (b .count) j)) ∷ []) (suc (b .count)))
-    k
+    marksTo (λ i. marksTo (gridMark (b .plane) (b .count) (b .side) (margin + i * b .side) i) (suc (b .count))) k
 
 -- one column more
 pub grid-more : (g : Ground) (w : Worth) (cells : List ℕ) (b : Boxes) (k : ℕ)
@@ -238,7 +237,7 @@ grid-more g w cells b k =
     ∙ sym (appended (drawn-append g w cells (gridTo b k) _))
   where
     column : List Mark
-    column = marksTo (λ j. mark (b .plane) (margin + k * b .side) (margin + j * b .side) (sign (k + j) * (choose (b .count) k * choose (b .count) j)) ∷ []) (suc (b .count))
+    column = marksTo (gridMark (b .plane) (b .count) (b .side) (margin + k * b .side) k) (suc (b .count))
 
     appended : layDrawn g w cells (gridTo b k ++ column) ≡ layDrawn g w (layDrawn g w cells (gridTo b k)) column
         → layDrawn g w cells (gridTo b (suc k)) ≡ layDrawn g w (layDrawn g w cells (gridTo b k)) column

@@ -30,7 +30,13 @@ add-accepted : tie.Need-add-accepted
 add-accepted c =
     let s = c .before .before .before .before .before .before .before .before .before .before .before .before in
     let change = s .args .change in
-    omega (arith, count-few (change .old .shape), count-few (change .new .shape), c .before .mark-count .ensures, c .mark-count2 .ensures)
+    omega (
+      arith,
+      count-few (change .old .shape),
+      count-few (change .new .shape),
+      c .before .mark-count .ensures,
+      c .mark-count2 .ensures,
+    )
 
 accepted-requires : tie.Need-accepted-requires
 accepted-requires c κs = search needs

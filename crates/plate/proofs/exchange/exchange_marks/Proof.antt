@@ -13,7 +13,8 @@ use Rattle.plate.specs.code.Bounds.{Fits}
 
 -- a pixel of the change at its place
 placed : (c : tie.After-frame-of) (n : ℕ) → let a = c .before .before .args in
-    (p : Pixel) → n ≡ length (now (a .planes)) → Fits (a .size .reach) p → Placed (c .frame-of .result) n (a .change .x) (a .change .y) p
+    (p : Pixel) → n ≡ length (now (a .planes)) → Fits (a .size .reach) p
+    → Placed (c .frame-of .result) n (a .change .x) (a .change .y) p
 placed c n p e fits =
     let s = c .before .before in
     rw (c .frame-of .ensures)

@@ -19,7 +19,8 @@ held c = lent (c .args .planes .now) (c .args .pixels .now) (c .args .log .now)
 
 -- what was read
 reads : (c : tie.After-read-layer)
-    → let s = entry c in c .read-layer .result ≡ layerRead (s .args .state) (s .args .lens) (s .args .shape) (given s) (sizedAs (held s))
+    → let s = entry c in
+    c .read-layer .result ≡ layerRead (s .args .state) (s .args .lens) (s .args .shape) (given s) (sizedAs (held s))
 reads c = c .read-layer .ensures (entry c .args .opacities .now) refl
 
 read-layer-requires : tie.Need-read-layer-requires

@@ -62,7 +62,9 @@ lay-mark-requires c κs =
     let s = start (turn .before) in
     let a = s .args in (
       omega (arith, turn .before .loop .inv .1, s .pre .roomy .planes-are),
-      mark-in (a .g) (a .b .plane) (a .b .count) (a .b .side) (a .x) (turn .before .loop .j) (omega (arith, turn .loop-test .taken)) (s .pre .roomy .inside),
+      mark-in (a .g) (a .b .plane) (a .b .count) (a .b .side) (a .x) (turn .before .loop .j)
+          (omega (arith, turn .loop-test .taken))
+          (s .pre .roomy .inside),
     )
 
 add-j : tie.Need-add-j Inv-loop μ-loop
@@ -80,7 +82,8 @@ loop-again c =
       omega arith,
       search needs,
       λ v k e. rw (laid .lay-mark .ensures, turn .before .loop .inv .2 v k e, add-one)
-          (column-more (a .g) v (a .w) _ (now (a .planes)) (a .b .plane) (a .b .count) (a .b .side) (a .x) k (turn .before .loop .j) e (laid .before .factored .ensures)),
+          (column-more (a .g) v (a .w) _ (now (a .planes)) (a .b .plane) (a .b .count) (a .b .side) (a .x) k (turn .before .loop .j) e
+          (laid .before .factored .ensures)),
     )
 
 same-length : tie.Need-same-length Inv-loop μ-loop

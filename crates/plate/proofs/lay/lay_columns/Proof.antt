@@ -17,7 +17,8 @@ use Rattle.plate.proofs.lay.lay_columns.Statement.{statement}
 use Rattle.plate.proofs.lay.lay_columns.Tie as tie
 
 abbrev Inv-loop : tie.InvT-loop
-Inv-loop planes₀ g b w i₀ i-end planes i = (i ≤ i-end) × (length planes ≡ length planes₀) × (planes ≡ layDrawn g w planes₀ (gridTo b i))
+Inv-loop planes₀ g b w i₀ i-end planes i =
+    (i ≤ i-end) × (length planes ≡ length planes₀) × (planes ≡ layDrawn g w planes₀ (gridTo b i))
 
 abbrev μ-loop : tie.MeasureT-loop
 μ-loop planes₀ g b w i₀ i-end planes i = i-end - i
@@ -35,7 +36,8 @@ unfolding drawnMarks
 inside c =
     let s = start (c .before) in
     let b = s .args .b in
-    columns-in (s .args .g) (b .plane) (b .count) (b .side) (c .before .loop .i) (omega (arith, c .loop-test .taken)) (s .pre .0 .inside)
+    columns-in (s .args .g) (b .plane) (b .count) (b .side) (c .before .loop .i) (omega (arith, c .loop-test .taken))
+    (s .pre .0 .inside)
 
 -- no step along the grid wraps
 steps : (c : tie.In-loop Inv-loop μ-loop)
@@ -44,8 +46,10 @@ steps : (c : tie.In-loop Inv-loop μ-loop)
 steps c =
     let s = start (c .before) in
     let b = s .args .b in
-    let in-count : c .before .loop .i ≤ b .count = omega (arith, c .loop-test .taken) in
-    (product-le (c .before .loop .i) (b .side) (b .count) (b .side) in-count (omega arith), omega (arith, inside c .1, s .pre .0 .planes-are))
+    let in-count : c .before .loop .i ≤ b .count = omega (arith, c .loop-test .taken) in (
+      product-le (c .before .loop .i) (b .side) (b .count) (b .side) in-count (omega arith),
+      omega (arith, inside c .1, s .pre .0 .planes-are),
+    )
 
 add-i-end : tie.Need-add-i-end Inv-loop μ-loop
 add-i-end c = omega (arith, c .before .before .pre .2)
@@ -96,7 +100,8 @@ loop-again c =
       search needs,
       rw add-one
           (laid .lay-column .ensures (a .w) (factor (a .b .count) i) (laid .before .factored .ensures)
-          ∙ ap (λ (cells : List ℕ). layDrawn (a .g) (a .w) cells (columnMarks (a .b) (margin + i * a .b .side) (factor (a .b .count) i)))
+          ∙ ap
+          (λ (cells : List ℕ). layDrawn (a .g) (a .w) cells (columnMarks (a .b) (margin + i * a .b .side) (factor (a .b .count) i)))
           (turn .before .loop .inv .2)
           ∙ grid-more (a .g) (a .w) (now (a .planes)) (a .b) i),
     )

@@ -29,7 +29,11 @@ returns c =
     let shared = laid .before .before .before in
     let s = shared .before .before in
     let a = s .args in
-    rw (laid .lay-kernel .ensures, laid .before .worth-of .ensures, pixel-worth (a .frame) _ (a .x) (a .y) (a .p) _ (s .pre .0) (share shared))
+    rw (
+      laid .lay-kernel .ensures,
+      laid .before .worth-of .ensures,
+      pixel-worth (a .frame) _ (a .x) (a .y) (a .p) _ (s .pre .0) (share shared),
+    )
 
 pub lay-pixel-spec : {M : Type 1} → statement M
 lay-pixel-spec =

@@ -16,7 +16,13 @@ wrapping-add-u64-requires-2 c κs = search needs
 returns : tie.Need-returns
 returns c =
     let w = c .before .before .before .args .w in
-    rw (c .before .wrapping-add-u64 .ensures, c .wrapping-add-u642 .ensures, c .before .before .twice .ensures, thrice-number (w .light), thrice-number (w .matte))
+    rw (
+      c .before .wrapping-add-u64 .ensures,
+      c .wrapping-add-u642 .ensures,
+      c .before .before .twice .ensures,
+      thrice-number (w .light),
+      thrice-number (w .matte),
+    )
 
 pub thrice-spec : {M : Type 1} → statement M
 thrice-spec =

@@ -11,7 +11,14 @@ wrapping-add-u64-requires-2 : tie.Need-wrapping-add-u64-requires-2
 wrapping-add-u64-requires-2 c κs = search needs
 
 returns : tie.Need-returns
-returns c = rw (c .before .wrapping-add-u64 .ensures, c .wrapping-add-u642 .ensures, twice-number (c .before .before .args .w .light), twice-number (c .before .before .args .w .matte))
+returns c =
+    let w = c .before .before .args .w in
+    rw (
+      c .before .wrapping-add-u64 .ensures,
+      c .wrapping-add-u642 .ensures,
+      twice-number (w .light),
+      twice-number (w .matte),
+    )
 
 pub twice-spec : {M : Type 1} → statement M
 twice-spec = tie.close (tie.spec wrapping-add-u64-requires wrapping-add-u64-requires-2 returns)

@@ -22,7 +22,8 @@ asked s = let a = s .args in ask (a .x) (a .y) (a .value) (a .opacity) (a .shape
 
 -- the change that was read
 reads : (c : tie.After-change)
-    → let s = start (c .before .before) in putRead (s .args .state) (asked s) (sizedAs (held s)) (held s .pixels) ≡ ToChange (c .change .given .0 .0)
+    → let s = start (c .before .before) in
+    putRead (s .args .state) (asked s) (sizedAs (held s)) (held s .pixels) ≡ ToChange (c .change .given .0 .0)
 reads c = sym (c .before .before .read-put .ensures) ∙ c .change .given .1
 
 read-put-requires : tie.Need-read-put-requires

@@ -13,13 +13,16 @@ use Rattle.plate.proofs.scan.depth_between.Statement.{statement}
 use Rattle.plate.proofs.scan.depth_between.Tie as tie
 
 abbrev Inv-loop : tie.InvT-loop
-Inv-loop depths size above most found₀ y start x₀ y-end x-end found x = (x ≤ x-end) × (found ≡ false) × NoneTo (isBetween above most) depths (start + x) × SmallTo depths (start + x)
+Inv-loop depths size above most found₀ y start x₀ y-end x-end found x =
+    (x ≤ x-end) × (found ≡ false) × NoneTo (isBetween above most) depths (start + x) × SmallTo depths (start + x)
 
 abbrev μ-loop : tie.MeasureT-loop
 μ-loop depths size above most found₀ y start x₀ y-end x-end found x = x-end - x
 
 abbrev Inv-rows : tie.InvT-rows
-Inv-rows depths size above most found₀ y₀ y-end found y = (y ≤ y-end) × (found ≡ false) × NoneTo (isBetween above most) depths (y * size .width) × SmallTo depths (y * size .width)
+Inv-rows depths size above most found₀ y₀ y-end found y =
+    (y ≤ y-end) × (found ≡ false) × NoneTo (isBetween above most) depths (y * size .width)
+    × SmallTo depths (y * size .width)
 
 abbrev μ-rows : tie.MeasureT-rows
 μ-rows depths size above most found₀ y₀ y-end found y = y-end - y
@@ -89,7 +92,9 @@ returns c =
     let start = c .before .before .before in
     let a = start .args in
     let z = a .size in (
-      turn .inv .1 ∙ sym (none-found (isBetween (a .above) (a .most)) _ (z .width) (z .height) (turn .y) (start .pre) (c .rows-test .left) (turn .inv .2)),
+      turn .inv .1
+          ∙ sym (none-found (isBetween (a .above) (a .most)) _ (z .width) (z .height) (turn .y) (start .pre) (c .rows-test .left)
+          (turn .inv .2)),
       λ e. small-all (a .depths .now) (z .width) (z .height) (turn .y) (start .pre) (c .rows-test .left) (turn .inv .3),
     )
 

@@ -15,7 +15,8 @@ use Rattle.plate.proofs.scan.value_above.Tie as tie
 use Rattle.kernels.specs.Fixed.{valueTop}
 
 abbrev Inv-loop : tie.InvT-loop
-Inv-loop values size found₀ y start x₀ y-end x-end found x = (x ≤ x-end) × (found ≡ false) × NoneTo (ltb valueTop) values (start + x)
+Inv-loop values size found₀ y start x₀ y-end x-end found x =
+    (x ≤ x-end) × (found ≡ false) × NoneTo (ltb valueTop) values (start + x)
 
 abbrev μ-loop : tie.MeasureT-loop
 μ-loop values size found₀ y start x₀ y-end x-end found x = x-end - x

@@ -18,7 +18,8 @@ held s = lent (now (s .args .planes)) (now (s .args .pixels)) (now (s .args .log
 
 -- the change that was read
 reads : (c : tie.After-change)
-    → let s = start (c .before .before) in undoRead (s .args .state) (sizedAs (held s)) (held s .pixels) (held s .log) ≡ ToChange (c .change .given .0 .0)
+    → let s = start (c .before .before) in
+    undoRead (s .args .state) (sizedAs (held s)) (held s .pixels) (held s .log) ≡ ToChange (c .change .given .0 .0)
 reads c = sym (c .before .before .read-undo .ensures) ∙ c .change .given .1
 
 read-undo-requires : tie.Need-read-undo-requires
