@@ -1,8 +1,12 @@
 -- The planes are those that `exchange_marks` leaves, the word is the packed pixel, and the counts are few.
-use mathlib.Core.Path.{_≡_, _∙_}
+use mathlib.Core.Path.{ap, _∙_}
+use Prim.Native.Nat.{ℕ}
 use native.Mathlib.Omega.{arith}
 use borrow.Author.Needs.{needs}
 use Rattle.kernels.proofs.taps.ShapeNumbers.{count-few}
+use Rattle.plate.specs.Lent.{stateOf}
+use Rattle.plate.specs.Refusal.{Accepted}
+use Rattle.plate.specs.Calls.{answerOf}
 use Rattle.plate.proofs.exchange.exchange.Statement.{statement}
 use Rattle.plate.proofs.exchange.exchange.Tie as tie
 
@@ -52,8 +56,11 @@ returns c =
     let new = c .before in
     let old = new .before in
     let packed = old .before in
+    let start = packed .before .before .before .before .before .before .before .before .before .before in
     record {
-      answer-is = rw (c .accepted .ensures, old .mark-count .ensures, new .mark-count2 .ensures);
+      answer-is = c .accepted .ensures
+          ∙ ap (λ (n : ℕ). answerOf Accepted n (stateOf (start .args .state .size) (start .args .count)))
+          (omega (arith, old .mark-count .ensures, new .mark-count2 .ensures));
       planes-are = packed .before .before .before .before .before .exchange-marks .ensures;
       pixels-are = rw (packed .pack .ensures);
     }
