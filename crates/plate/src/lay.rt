@@ -18,7 +18,7 @@ ghost use Rattle.kernels.specs.Fixed.{planesEach, margin};
 ghost use Rattle.kernels.specs.declared.mark.Drawing.the-variants.{Grid, Lines};
 ghost use Rattle.kernels.specs.Mark.{minus, boxGrid, scaled};
 ghost use Rattle.kernels.specs.Share.{shareTable};
-ghost use Rattle.kernels.specs.code.Drawing.{pieceMarks, linePieces, drawnMarks};
+ghost use Rattle.kernels.specs.code.Drawing.{pieceMarks, drawnMarks};
 ghost use Rattle.plate.specs.Fixed.{planesInAll};
 ghost use Rattle.plate.specs.Marks.{layAll};
 ghost use Rattle.plate.specs.code.Laying.{Worth, times, worthOf, spot, layWorth, layDrawn, factor, levelMarks, columnMarks, ColumnIn, FewBoxes, Roomy, Placed, kernelAt, marksAt};
@@ -118,26 +118,8 @@ fn lay_level(planes: &mut [u64], g: Ground, o: Outline, l: Line, start: Worth, e
     );
 }
 
-// The marks of a line: the first piece in plane p, the last in plane q, and the level one between them where there is one.
-fn lay_line(
-    planes: &mut [u64],
-    g: Ground,
-    p: usize,
-    q: usize,
-    o: Outline,
-    l: Line,
-    start: Worth,
-    end: Worth,
-)
-    requires { ⌜ Roomy g (length (now planes)) (linePieces p q 1 1 o l) ⌝ }
-    ensures { λ _. ⌜ ((w : Worth) (c d : ℕ) → start ≡ times w c → end ≡ times w d → now (planes .exit) ≡ layDrawn g w (now (planes .entry)) (linePieces p q c d o l)) ⌝ }
-{
-    lay_piece(planes, g, p, o.left, l.edge, o.turn, l.level, start, end);
-    lay_level(planes, g, o, l, start, end);
-    lay_piece(planes, g, q, o.back, l.level, o.right, l.past, start, end);
-}
-
-// The lines of an outline: plus along the top, minus along the bottom.
+// The lines of an outline, piece by piece: plus along the top, minus along the bottom. A line is no function of its own, so that
+// the compiler lays all marks of a kernel in one go.
 fn lay_lines(planes: &mut [u64], g: Ground, o: Outline, w: Worth)
     requires { ⌜ Roomy g (length (now planes)) (drawnMarks (Lines o)) ⌝ }
     ensures { λ _. ⌜ now (planes .exit) ≡ layDrawn g w (now (planes .entry)) (drawnMarks (Lines o)) ⌝ }
@@ -145,8 +127,52 @@ fn lay_lines(planes: &mut [u64], g: Ground, o: Outline, w: Worth)
     let minus = opposite(w);
     let top = o.top;
     let bottom = o.bottom;
-    lay_line(planes, g, o.rising, o.falling, o, top, w, minus);
-    lay_line(planes, g, o.falling, o.rising, o, bottom, minus, w);
+    lay_piece(
+        planes,
+        g,
+        o.rising,
+        o.left,
+        top.edge,
+        o.turn,
+        top.level,
+        w,
+        minus,
+    );
+    lay_level(planes, g, o, top, w, minus);
+    lay_piece(
+        planes,
+        g,
+        o.falling,
+        o.back,
+        top.level,
+        o.right,
+        top.past,
+        w,
+        minus,
+    );
+    lay_piece(
+        planes,
+        g,
+        o.falling,
+        o.left,
+        bottom.edge,
+        o.turn,
+        bottom.level,
+        minus,
+        w,
+    );
+    lay_level(planes, g, o, bottom, minus, w);
+    lay_piece(
+        planes,
+        g,
+        o.rising,
+        o.back,
+        bottom.level,
+        o.right,
+        bottom.past,
+        minus,
+        w,
+    );
 }
 
 // One box: neighbouring corners differ in sign.

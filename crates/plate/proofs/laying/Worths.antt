@@ -57,6 +57,12 @@ unfolding layDrawn
 drawn-append g w cells [] ns = refl
 drawn-append g w cells (m ∷ ms) ns = drawn-append g w (layWorth g cells (m .plane) (m .column) (m .row) (times w (m .coefficient))) ms ns
 
+-- one list laid after another is both laid
+pub both-laid : (g : Ground) (w : Worth) (before : List ℕ) (ms ns : List Mark) {between after : List ℕ}
+    → between ≡ layDrawn g w before ms
+    → after ≡ layDrawn g w between ns → after ≡ layDrawn g w before (ms ++ ns)
+both-laid g w before ms ns e f = rw (drawn-append g w before ms ns, ← e) f
+
 -- PLACES OF MARKS
 inside-append : (g : Ground) (ms ns : List Mark) → AllIn g (ms ++ ns) → AllIn g ms × AllIn g ns
 unfolding AllIn
