@@ -33,8 +33,12 @@ fn exchange_marks(planes: &mut [u64], size: Size, change: Change)
     let table = kernels::share::shares();
     let old = change.old;
     let new = change.new;
-    take_pixel(planes, frame, change.x, change.y, old, &table);
-    lay_pixel(planes, frame, change.x, change.y, new, &table);
+    let old_shape = old.shape;
+    let new_shape = new.shape;
+    let old_share = kernels::share::share_in(&table, old_shape, old.radius);
+    let new_share = kernels::share::share_in(&table, new_shape, new.radius);
+    take_pixel(planes, frame, change.x, change.y, old, old_share);
+    lay_pixel(planes, frame, change.x, change.y, new, new_share);
 }
 
 // Replaces a pixel, its marks and its word, and answers with the marks moved and the log count that is handed back.

@@ -7,7 +7,6 @@ use kernels::Drawing;
 use kernels::Line;
 use kernels::Outline;
 use kernels::Share;
-use kernels::Table;
 use kernels::fixed::LEVEL;
 use kernels::fixed::MARGIN;
 use kernels::fixed::PLANES_EACH;
@@ -17,7 +16,7 @@ ghost use lib.ListN.{length};
 ghost use Rattle.kernels.specs.Fixed.{planesEach, margin};
 ghost use Rattle.kernels.specs.declared.mark.Drawing.the-variants.{Grid, Lines};
 ghost use Rattle.kernels.specs.Mark.{minus, boxGrid, scaled};
-ghost use Rattle.kernels.specs.Share.{shareTable};
+ghost use Rattle.kernels.specs.Share.{shareParts};
 ghost use Rattle.kernels.specs.code.Drawing.{pieceMarks, drawnMarks};
 ghost use Rattle.plate.specs.Fixed.{planesInAll};
 ghost use Rattle.plate.specs.Marks.{layAll};
@@ -292,13 +291,11 @@ pub(crate) fn lay_pixel(
     x: usize,
     y: usize,
     p: Pixel,
-    table: &Table,
+    share: Share,
 )
-    requires { ⌜ Placed frame (length (now planes)) x y p × (now table ≡ shareTable) ⌝ }
+    requires { ⌜ Placed frame (length (now planes)) x y p × (share ≡ shareParts (p .shape) (p .radius)) ⌝ }
     ensures { λ _. ⌜ now (planes .exit) ≡ layAll (frame .size) (now (planes .entry)) (marksAt frame x y p) ⌝ }
 {
-    let shape = p.shape;
-    let share = kernels::share::share_in(table, shape, p.radius);
     lay_kernel(planes, frame, x, y, p, worth_of(p, share));
 }
 
@@ -309,12 +306,10 @@ pub(crate) fn take_pixel(
     x: usize,
     y: usize,
     p: Pixel,
-    table: &Table,
+    share: Share,
 )
-    requires { ⌜ Placed frame (length (now planes)) x y p × (now table ≡ shareTable) ⌝ }
+    requires { ⌜ Placed frame (length (now planes)) x y p × (share ≡ shareParts (p .shape) (p .radius)) ⌝ }
     ensures { λ _. ⌜ now (planes .exit) ≡ layAll (frame .size) (now (planes .entry)) (scaled (minus 1) (marksAt frame x y p)) ⌝ }
 {
-    let shape = p.shape;
-    let share = kernels::share::share_in(table, shape, p.radius);
     lay_kernel(planes, frame, x, y, p, opposite(worth_of(p, share)));
 }

@@ -127,7 +127,8 @@ fn fill_pixel(
         shape: shape,
         radius: radius,
     };
-    lay_pixel(planes, frame, x, y, pixel, table);
+    let share = kernels::share::share_in(table, shape, radius);
+    lay_pixel(planes, frame, x, y, pixel, share);
     pack(pixel)
 }
 

@@ -1,4 +1,5 @@
--- `take_pixel` and `lay_pixel` do what `exchanged` says one after the other, on planes of the same length.
+-- The table gives both shares; `take_pixel` and `lay_pixel` do what `exchanged` says one after the other, on planes of the same
+-- length.
 use mathlib.Core.Path.{_≡_, refl, _∙_}
 use Prim.Native.Nat.{ℕ}
 use denote.Ref.{now}
@@ -7,6 +8,7 @@ use borrow.Author.Needs.{needs}
 use Rattle.plate.specs.Word.{Pixel}
 use Rattle.plate.specs.Marks.{exchanged}
 use Rattle.plate.specs.code.Laying.{Placed}
+use Rattle.kernels.proofs.taps.Shares.{table-share}
 use Rattle.plate.proofs.exchange.exchange_marks.Statement.{statement}
 use Rattle.plate.proofs.exchange.exchange_marks.Tie as tie
 use Rattle.plate.specs.code.Bounds.{Fits}
@@ -32,17 +34,29 @@ frame-of-requires c κs = c .before .pre .lawful
 shares-requires : tie.Need-shares-requires
 shares-requires c κs = search needs
 
+share-in-requires : tie.Need-share-in-requires
+share-in-requires c κs = search needs
+
+share-in-requires-2 : tie.Need-share-in-requires-2
+share-in-requires-2 c κs = search needs
+
 take-pixel-requires : tie.Need-take-pixel-requires
 take-pixel-requires c κs =
-    let shared = c .before .before .before .before in
-    let framed = shared .before in
-    (placed framed _ _ refl (framed .before .before .pre .old-fits), shared .shares .ensures)
+    let old-share = c .before .before .before in
+    let shared = old-share .before .before .before .before in
+    let framed = shared .before in (
+      placed framed _ _ refl (framed .before .before .pre .old-fits),
+      old-share .share-in .ensures ∙ rw (shared .shares .ensures) (table-share _ _),
+    )
 
 lay-pixel-requires : tie.Need-lay-pixel-requires
 lay-pixel-requires c κs =
-    let shared = c .before .before .before .before .before .before .before .before .before in
-    let framed = shared .before in
-    (placed framed _ _ (search needs) (framed .before .before .pre .new-fits), shared .shares .ensures)
+    let new-share = c .before .before .before .before .before in
+    let shared = new-share .before .before .before .before .before .before in
+    let framed = shared .before in (
+      placed framed _ _ (search needs) (framed .before .before .pre .new-fits),
+      new-share .share-in2 .ensures ∙ rw (shared .shares .ensures) (table-share _ _),
+    )
 
 same-length : tie.Need-same-length
 same-length c = search needs
@@ -51,8 +65,8 @@ returns : tie.Need-returns
 unfolding exchanged
 returns c =
     let laid = c .before .before in
-    let taken = laid .before .before .before .before .before in
-    let framed = taken .before .before .before .before .before .before in
+    let taken = laid .before .before .before .before in
+    let framed = taken .before .before .before .before .before .before .before .before .before in
     let s = framed .before .before in
     rw (laid .lay-pixel .ensures, taken .take-pixel .ensures, framed .frame-of .ensures, s .pre .place-is)
 
@@ -62,6 +76,8 @@ exchange-marks-spec =
     (tie.spec
     frame-of-requires
     shares-requires
+    share-in-requires
+    share-in-requires-2
     take-pixel-requires
     lay-pixel-requires
     same-length

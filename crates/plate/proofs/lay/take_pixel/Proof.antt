@@ -1,18 +1,8 @@
 -- Laying the opposite worth is laying minus the marks.
-use mathlib.Core.Path.{_≡_, _∙_}
 use borrow.Author.Needs.{needs}
-use Rattle.kernels.specs.Share.{shareParts}
-use Rattle.kernels.proofs.taps.Shares.{table-share}
 use Rattle.plate.proofs.laying.Corners.{pixel-worth, opposite-laid}
 use Rattle.plate.proofs.lay.take_pixel.Statement.{statement}
 use Rattle.plate.proofs.lay.take_pixel.Tie as tie
-
--- the share is that of the pixel's kernel
-share : (c : tie.After-share-in) → let p = c .before .before .args .p in c .share-in .result ≡ shareParts (p .shape) (p .radius)
-share c = let s = c .before .before in c .share-in .ensures ∙ rw (s .pre .1) (table-share (s .args .p .shape) (s .args .p .radius))
-
-share-in-requires : tie.Need-share-in-requires
-share-in-requires c κs = search needs
 
 worth-of-requires : tie.Need-worth-of-requires
 worth-of-requires c κs = search needs
@@ -21,7 +11,7 @@ opposite-requires : tie.Need-opposite-requires
 opposite-requires c κs = search needs
 
 lay-kernel-requires : tie.Need-lay-kernel-requires
-lay-kernel-requires c κs = c .before .before .before .before .before .pre .0
+lay-kernel-requires c κs = c .before .before .before .before .pre .0
 
 same-length : tie.Need-same-length
 same-length c = search needs
@@ -30,22 +20,20 @@ returns : tie.Need-returns
 returns c =
     let laid = c .before .before in
     let turned = laid .before in
-    let shared = turned .before .before .before in
-    let s = shared .before .before in
+    let s = turned .before .before .before .before in
     let a = s .args in
     rw (
       laid .lay-kernel .ensures,
       turned .opposite .ensures,
       turned .before .worth-of .ensures,
       opposite-laid,
-      pixel-worth (a .frame) _ (a .x) (a .y) (a .p) _ (s .pre .0) (share shared),
+      pixel-worth (a .frame) _ (a .x) (a .y) (a .p) _ (s .pre .0) (s .pre .1),
     )
 
 pub take-pixel-spec : {M : Type 1} → statement M
 take-pixel-spec =
     tie.close
     (tie.spec
-    share-in-requires
     worth-of-requires
     opposite-requires
     lay-kernel-requires

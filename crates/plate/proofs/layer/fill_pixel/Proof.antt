@@ -5,6 +5,7 @@ use Prim.Native.Nat.{min}
 use native.Mathlib.Omega.{arith}
 use borrow.Author.Needs.{needs}
 use Rattle.kernels.specs.Lens.{blur}
+use Rattle.kernels.proofs.taps.Shares.{table-share}
 use Rattle.kernels.proofs.lenses.ThinLens.{in-pixels}
 use Rattle.plate.proofs.filling.Filling.{radius-is}
 use Rattle.plate.proofs.layer.fill_pixel.Statement.{statement}
@@ -35,9 +36,13 @@ returns c =
     let some = in-pixels (a .layer .lens) (a .layer .top) (a .depth) (start .pre .0 .lens-lawful) (start .pre .2 .depth-in) in
     absurd (⊎-elim (λ q. omega arith) (λ q. omega arith) (rw (found .radius-from .ensures ∙ some) at (c .match .keys2)))
 
+share-in-requires : tie.Need-share-in-requires
+share-in-requires c κs = search needs
+
 lay-pixel-requires : tie.Need-lay-pixel-requires
 lay-pixel-requires c κs =
-    let known = c .before .before .before in
+    let shared = c .before in
+    let known = shared .before .before .before in
     let start = known .before .before .before .before in
     let h = start .pre in (
       record {
@@ -47,12 +52,12 @@ lay-pixel-requires c κs =
         row-in = h .2 .row-in;
         radius-fits = omega (arith, radius known, h .0 .top-is);
       },
-      h .1,
+      shared .share-in .ensures ∙ rw (h .1) (table-share _ _),
     )
 
 pack-requires : tie.Need-pack-requires
 pack-requires c κs =
-    c .before .before .before .before .before .before .before .before .before .before .pre .2 .value-in
+    c .before .before .before .before .before .before .before .before .before .before .before .pre .2 .value-in
 
 same-length : tie.Need-same-length
 same-length c = search needs
@@ -60,7 +65,7 @@ same-length c = search needs
 returns-2 : tie.Need-returns-2
 returns-2 c =
     let laid = c .before .before .before in
-    let r = radius (laid .before .before .before .before) in
+    let r = radius (laid .before .before .before .before .before) in
     record { laid = rw (laid .lay-pixel .ensures, r); word-is = rw (c .pack .ensures, r) }
 
 pub fill-pixel-spec : {M : Type 1} → statement M
@@ -70,6 +75,7 @@ fill-pixel-spec =
     radius-from-requires
     enum-known-radius
     returns
+    share-in-requires
     lay-pixel-requires
     pack-requires
     same-length
