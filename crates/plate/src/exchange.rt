@@ -4,9 +4,6 @@ use crate::lay::lay_pixel;
 use crate::lay::take_pixel;
 use crate::size::Size;
 use crate::size::frame_of;
-use crate::state::Answer;
-use crate::state::State;
-use crate::state::accepted;
 use crate::word::Pixel;
 use crate::word::pack;
 ghost use mathlib.Core.Path.{_≡_};
@@ -41,19 +38,12 @@ fn exchange_marks(planes: &mut [u64], size: Size, change: Change)
     lay_pixel(planes, frame, change.x, change.y, new, new_share);
 }
 
-// Replaces a pixel, its marks and its word, and answers with the marks moved and the log count that is handed back.
-pub(crate) fn exchange(
-    state: State,
-    count: usize,
-    change: Change,
-    planes: &mut [u64],
-    pixels: &mut [u64],
-) -> Answer
-    requires { ⌜ Changeable (state .size) change (length (now planes)) ⌝ }
+// Replaces a pixel, its marks and its word, and answers the marks moved.
+pub(crate) fn exchange(size: Size, change: Change, planes: &mut [u64], pixels: &mut [u64]) -> u32
+    requires { ⌜ Changeable size change (length (now planes)) ⌝ }
     requires { ⌜ change .place < length (now pixels) ⌝ }
-    ensures { λ r. ⌜ Changed (state .size) count change (now (planes .entry)) (now (pixels .entry)) r (now (planes .exit)) (now (pixels .exit)) ⌝ }
+    ensures { λ r. ⌜ Changed size change (now (planes .entry)) (now (pixels .entry)) r (now (planes .exit)) (now (pixels .exit)) ⌝ }
 {
-    let size = state.size;
     exchange_marks(planes, size, change);
     let place = change.place;
     let old = change.old;
@@ -61,5 +51,5 @@ pub(crate) fn exchange(
     pixels[place] = pack(new);
     let gone = mark_count(old);
     let come = mark_count(new);
-    accepted(gone + come, size, count)
+    gone + come
 }

@@ -6,6 +6,7 @@ use kernels::Boxes;
 use kernels::Drawing;
 use kernels::Line;
 use kernels::Outline;
+use kernels::Shape;
 use kernels::Share;
 use kernels::fixed::LEVEL;
 use kernels::fixed::MARGIN;
@@ -20,7 +21,7 @@ ghost use Rattle.kernels.specs.Share.{shareParts};
 ghost use Rattle.kernels.specs.code.Drawing.{pieceMarks, drawnMarks};
 ghost use Rattle.plate.specs.Fixed.{planesInAll};
 ghost use Rattle.plate.specs.Marks.{layAll};
-ghost use Rattle.plate.specs.code.Laying.{Worth, times, worthOf, spot, layWorth, layDrawn, factor, levelMarks, columnMarks, ColumnIn, FewBoxes, Roomy, Placed, kernelAt, marksAt};
+ghost use Rattle.plate.specs.code.Laying.{Worth, times, worthOf, spot, layWorth, layDrawn, factor, levelMarks, columnMarks, ColumnIn, FewBoxes, Roomy, Placed, ownMarks, groundOf, cornerOf, marksAt};
 
 // What a mark of coefficient 1 adds in light and in matte. Both wrap: to take a kernel off is to lay what wraps to its opposite.
 pub struct Worth {
@@ -269,19 +270,32 @@ fn worth_of(p: Pixel, share: Share) -> Worth
     }
 }
 
-// The kernel of a pixel at (x, y), each mark worth w for 1 of its coefficient.
-fn lay_kernel(planes: &mut [u64], frame: Frame, x: usize, y: usize, p: Pixel, w: Worth)
-    requires { ⌜ Placed frame (length (now planes)) x y p ⌝ }
-    ensures { λ _. ⌜ now (planes .exit) ≡ layAll (frame .size) (now (planes .entry)) (kernelAt frame x y p w) ⌝ }
+// The marks of the kernel of a shape and a radius, its drawing laid from the corner; each mark is worth w for 1 of its
+// coefficient. The worth is read first, whatever the shape, so that the compiler hands its numbers over in registers.
+fn lay_kernel(planes: &mut [u64], frame: Frame, corner: usize, shape: Shape, radius: u8, w: Worth)
+    requires { ⌜ Roomy (groundOf frame corner) (length (now planes)) (ownMarks shape radius) ⌝ }
+    ensures { λ _. ⌜ now (planes .exit) ≡ layDrawn (groundOf frame corner) w (now (planes .entry)) (ownMarks shape radius) ⌝ }
 {
-    let shape = p.shape;
-    let spare = frame.size.reach - kernels::shape::reach(shape, p.radius);
+    let worth = Worth {
+        light: w.light,
+        matte: w.matte,
+    };
     let ground = Ground {
         wide: frame.wide,
         padded: frame.padded,
-        corner: (y + spare) * frame.wide + (x + spare),
+        corner: corner,
     };
-    lay_drawing(planes, ground, kernels::mark::draw(shape, p.radius), w);
+    lay_drawing(planes, ground, kernels::mark::draw(shape, radius), worth);
+}
+
+// The cell that the kernel of the pixel at (x, y) has as its corner: as far in as the kernel leaves of the reach.
+fn corner_of(frame: Frame, x: usize, y: usize, p: Pixel) -> usize
+    requires { ⌜ Placed frame x y p ⌝ }
+    ensures { λ r. ⌜ r ≡ cornerOf frame x y p ⌝ }
+{
+    let shape = p.shape;
+    let spare = frame.size.reach - kernels::shape::reach(shape, p.radius);
+    (y + spare) * frame.wide + (x + spare)
 }
 
 // Lays the marks of the pixel at (x, y).
@@ -293,10 +307,12 @@ pub(crate) fn lay_pixel(
     p: Pixel,
     share: Share,
 )
-    requires { ⌜ Placed frame (length (now planes)) x y p × (share ≡ shareParts (p .shape) (p .radius)) ⌝ }
+    requires { ⌜ Placed frame x y p × (length (now planes) ≡ planesInAll * frame .padded) × (share ≡ shareParts (p .shape) (p .radius)) ⌝ }
     ensures { λ _. ⌜ now (planes .exit) ≡ layAll (frame .size) (now (planes .entry)) (marksAt frame x y p) ⌝ }
 {
-    lay_kernel(planes, frame, x, y, p, worth_of(p, share));
+    let shape = p.shape;
+    let corner = corner_of(frame, x, y, p);
+    lay_kernel(planes, frame, corner, shape, p.radius, worth_of(p, share));
 }
 
 // Takes the marks of the pixel at (x, y) off.
@@ -308,8 +324,17 @@ pub(crate) fn take_pixel(
     p: Pixel,
     share: Share,
 )
-    requires { ⌜ Placed frame (length (now planes)) x y p × (share ≡ shareParts (p .shape) (p .radius)) ⌝ }
+    requires { ⌜ Placed frame x y p × (length (now planes) ≡ planesInAll * frame .padded) × (share ≡ shareParts (p .shape) (p .radius)) ⌝ }
     ensures { λ _. ⌜ now (planes .exit) ≡ layAll (frame .size) (now (planes .entry)) (scaled (minus 1) (marksAt frame x y p)) ⌝ }
 {
-    lay_kernel(planes, frame, x, y, p, opposite(worth_of(p, share)));
+    let shape = p.shape;
+    let corner = corner_of(frame, x, y, p);
+    lay_kernel(
+        planes,
+        frame,
+        corner,
+        shape,
+        p.radius,
+        opposite(worth_of(p, share)),
+    );
 }

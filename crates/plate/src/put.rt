@@ -6,6 +6,7 @@ use crate::exchange::exchange;
 use crate::lent::Ask;
 use crate::state::Answer;
 use crate::state::State;
+use crate::state::accepted;
 use crate::state::refused;
 use crate::word::pack_entry;
 ghost use mathlib.Core.Path.{_≡_};
@@ -28,7 +29,9 @@ fn log_and_exchange(
     let place = change.place;
     let count = state.count;
     log[count] = pack_entry(pixels[place], place);
-    exchange(state, count + 1, change, planes, pixels)
+    let size = state.size;
+    let marks = exchange(size, change, planes, pixels);
+    accepted(marks, size, count + 1)
 }
 
 // Logs the word at (x, y), takes its marks off and sets the new pixel. A refused put touches nothing.

@@ -5,6 +5,7 @@ use crate::change::read_undo;
 use crate::exchange::exchange;
 use crate::state::Answer;
 use crate::state::State;
+use crate::state::accepted;
 use crate::state::refused;
 ghost use mathlib.Core.Path.{_≡_};
 ghost use Rattle.plate.specs.Lent.{lent, lentAtEntry, lentAtExit};
@@ -26,7 +27,9 @@ fn unlog_and_exchange(
     let count = state.count;
     let last = count - 1;
     log[last] = 0;
-    exchange(state, last, change, planes, pixels)
+    let size = state.size;
+    let marks = exchange(size, change, planes, pixels);
+    accepted(marks, size, last)
 }
 
 // Reads the last log entry, then zeroes it, and puts the logged pixel back in its place. A refused undo touches nothing.

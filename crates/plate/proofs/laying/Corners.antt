@@ -19,12 +19,13 @@ use Rattle.kernels.proofs.numbers.Products.{product-le}
 use Rattle.kernels.proofs.taps.ShapeNumbers.{count-few}
 use Rattle.kernels.proofs.numbers.Choices.{within-yes, by-lt}
 use Rattle.kernels.proofs.drawing.MarkPlaces.{Each, Near, marks-near, tap-marks-moved, tap-marks-count}
+use Rattle.plate.specs.Fixed.{planesInAll}
 use Rattle.plate.specs.Layout.{Size, wide, high, padded, columnOf, rowOf}
 use Rattle.plate.specs.Word.{Pixel}
 use Rattle.plate.specs.Marks.{inBoth, pixelMarks, cellOf, layOne, layAll}
 use Rattle.plate.proofs.numbers.Extents.{place-within}
 use Rattle.plate.proofs.laying.LaidCells.{lay-one-mod}
-use Rattle.plate.specs.code.Laying.{Worth, worthOf, Ground, layWorth, layDrawn, FewBoxes, AllIn, kernelAt, marksAt, Placed}
+use Rattle.plate.specs.code.Laying.{Worth, worthOf, Ground, layWorth, layDrawn, FewBoxes, AllIn, Roomy, Placed, ownMarks, groundOf, spare, cornerOf, kernelAt, marksAt}
 use Rattle.plate.specs.code.Bounds.{Frame, frameOf}
 use Rattle.plate.proofs.laying.Worths.{times-number}
 use Rattle.kernels.specs.Fixed.{planesEach, margin}
@@ -46,12 +47,12 @@ cell-in w h a b p x y pl col row =
     omega arith
 
 -- the ground of a drawing that lies a columns and b rows from the first cell
-abbrev pub groundOf : Frame → ℕ → ℕ → Ground
-groundOf f a b = record { wide = f .wide; padded = f .padded; corner = b * f .wide + a }
+abbrev groundIn : Size → ℕ → ℕ → Ground
+groundIn z a b = groundOf (frameOf z) (b * wide z + a)
 
 -- marks near enough to a pixel lie in the planes
 near-inside : (z : Size) (a b c d X Y : ℕ) → X + d < wide z → Y + d < high z → (ms : List Mark)
-    → Each (Near d X Y) (scaled c (moved a b ms)) → AllIn (groundOf (frameOf z) a b) ms
+    → Each (Near d X Y) (scaled c (moved a b ms)) → AllIn (groundIn z a b) ms
 unfolding Each scaled moved AllIn
 near-inside z a b c d X Y p q [] h = tt
 near-inside z a b c d X Y p q (m ∷ ms) h =
@@ -76,7 +77,7 @@ matte-cell P p n = omega arith
 
 -- the marks of a drawing, moved from the corner
 drawn-laid : (z : Size) (w : Worth) (a b : ℕ) (cells : List ℕ) (ms : List Mark)
-    → layDrawn (groundOf (frameOf z) a b) w cells ms ≡ layAll z cells (inBoth (w .light) (w .matte) (moved a b ms))
+    → layDrawn (groundIn z a b) w cells ms ≡ layAll z cells (inBoth (w .light) (w .matte) (moved a b ms))
 unfolding layDrawn layWorth layAll inBoth moved
 drawn-laid z w a b cells [] = refl
 drawn-laid z w a b cells (m ∷ ms) =
@@ -90,31 +91,22 @@ drawn-laid z w a b cells (m ∷ ms) =
 
 -- KERNELS
 -- the marks around a pixel are those of the drawing, moved by what the kernel leaves of the margin
-around : (z : Size) (x y : ℕ) (s : Shape) (r : ℕ) (ms : List Mark) → x < z .width → reachOf s r ≤ z .reach
-    → ms ≡ tapMarks s r (reachOf s r + margin) (reachOf s r + margin)
+around : (z : Size) (x y : ℕ) (s : Shape) (r : ℕ) → x < z .width → reachOf s r ≤ z .reach
     → tapMarks s r (columnOf z (y * z .width + x)) (rowOf z (y * z .width + x))
-    ≡ moved (x + (z .reach - reachOf s r)) (y + (z .reach - reachOf s r)) ms
-around z x y s r ms h k e =
+    ≡ moved (x + (z .reach - reachOf s r)) (y + (z .reach - reachOf s r)) (ownMarks s r)
+around z x y s r h k =
     let n = reachOf s r in
     let column : x + z .reach + margin ≡ n + margin + (x + (z .reach - n)) = omega arith in
     let row : y + z .reach + margin ≡ n + margin + (y + (z .reach - n)) = omega arith in
-    rw (column-at z x y h, row-at z x y h, column, row, e)
+    rw (column-at z x y h, row-at z x y h, column, row)
     (tap-marks-moved (x + (z .reach - n)) (y + (z .reach - n)) s r (n + margin) (n + margin) (omega arith) (omega arith))
 
--- what a kernel leaves of the reach on each side
-abbrev pub spare : Frame → Pixel → ℕ
-spare f p = f .size .reach - reachOf (p .shape) (p .radius)
-
--- the ground of a pixel's kernel
-abbrev pub groundAt : Frame → ℕ → ℕ → Pixel → Ground
-groundAt f x y p = groundOf f (x + spare f p) (y + spare f p)
-
-module _ (f : Frame) (n x y : ℕ) (p : Pixel) (placed : Placed f n x y p) where
+module _ (f : Frame) (x y : ℕ) (p : Pixel) (placed : Placed f x y p) where
   pub reaches : reachOf (p .shape) (p .radius) ≤ f .size .reach
   reaches = reach-under (f .size .reach) (p .shape) (p .radius) (placed .radius-fits)
 
   -- the corner of the drawing is a cell of a plane
-  pub corner-in : groundAt f x y p .corner < f .padded
+  pub corner-in : cornerOf f x y p < f .padded
   corner-in =
       let z = f .size in
       let s = spare f p in
@@ -122,29 +114,35 @@ module _ (f : Frame) (n x y : ℕ) (p : Pixel) (placed : Placed f n x y p) where
       let row = placed .row-in in
       rw (placed .framed) (place-within (x + s) (y + s) (wide z) (high z) (omega arith) (omega arith))
 
-  module _ (ms : List Mark)
-      (drawn : let n = reachOf (p .shape) (p .radius) in ms ≡ tapMarks (p .shape) (p .radius) (n + margin) (n + margin)) where
-    pub kernel-laid : (w : Worth) (cells : List ℕ)
-        → layDrawn (groundAt f x y p) w cells ms ≡ layAll (f .size) cells (kernelAt f x y p w)
-    kernel-laid w cells =
-        rw (around (f .size) x y (p .shape) (p .radius) ms (placed .column-in) reaches drawn, placed .framed)
-        (drawn-laid (f .size) w _ _ cells ms)
+  -- the kernel's marks, laid from its corner, are those around the pixel
+  pub kernel-laid : (w : Worth) (cells : List ℕ)
+      → layDrawn (groundOf f (cornerOf f x y p)) w cells (ownMarks (p .shape) (p .radius))
+      ≡ layAll (f .size) cells (kernelAt f x y p w)
+  kernel-laid w cells =
+      rw (around (f .size) x y (p .shape) (p .radius) (placed .column-in) reaches, placed .framed)
+      (drawn-laid (f .size) w _ _ cells (ownMarks (p .shape) (p .radius)))
 
-    pub kernel-inside : AllIn (groundAt f x y p) ms
-    unfolding marks
-    kernel-inside =
-        let z = f .size in
-        let R = z .reach in
-        let X = columnOf z (y * z .width + x) in
-        let Y = rowOf z (y * z .width + x) in
-        let right = placed .column-in in
-        let low = placed .row-in in
-        let column = column-at z x y right in
-        let row = row-at z x y right in
-        rw (placed .framed)
-        (near-inside z _ _ (share (p .shape) (p .radius)) (R + margin) X Y (omega arith) (omega arith) ms
-        (rw (around z x y (p .shape) (p .radius) ms right reaches drawn) at
-        (marks-near (p .shape) (p .radius) R X Y reaches (omega arith) (omega arith))))
+  -- and lie in the planes
+  pub kernel-inside : AllIn (groundOf f (cornerOf f x y p)) (ownMarks (p .shape) (p .radius))
+  unfolding marks
+  kernel-inside =
+      let z = f .size in
+      let R = z .reach in
+      let X = columnOf z (y * z .width + x) in
+      let Y = rowOf z (y * z .width + x) in
+      let right = placed .column-in in
+      let low = placed .row-in in
+      let column = column-at z x y right in
+      let row = row-at z x y right in
+      rw (placed .framed)
+      (near-inside z _ _ (share (p .shape) (p .radius)) (R + margin) X Y (omega arith) (omega arith) (ownMarks (p .shape) (p .radius))
+      (rw (around z x y (p .shape) (p .radius) right reaches) at
+      (marks-near (p .shape) (p .radius) R X Y reaches (omega arith) (omega arith))))
+
+  -- so that a plate has room for them
+  pub kernel-roomy : (n : ℕ) → n ≡ planesInAll * f .padded
+      → Roomy (groundOf f (cornerOf f x y p)) n (ownMarks (p .shape) (p .radius))
+  kernel-roomy n e = record { planes-are = e; inside = kernel-inside }
 
 -- PIXELS
 -- the share goes into the worth
@@ -154,10 +152,10 @@ both-scaled l m c [] = refl
 both-scaled l m c (k ∷ ms) = rw (← mul-assoc l c (k .coefficient), ← mul-assoc m c (k .coefficient), both-scaled l m c ms)
 
 -- "A mark is worth its sign or factor times a × s, and in light times v as well"
-pub pixel-worth : (f : Frame) (n x y : ℕ) (p : Pixel) (s : Share) → Placed f n x y p → s ≡ shareParts (p .shape) (p .radius)
+pub pixel-worth : (f : Frame) (x y : ℕ) (p : Pixel) (s : Share) → Placed f x y p → s ≡ shareParts (p .shape) (p .radius)
     → kernelAt f x y p (worthOf p s) ≡ marksAt f x y p
 unfolding pixelMarks marks shareUpTo shareParts
-pixel-worth f n x y p s placed e =
+pixel-worth f x y p s placed e =
     rw (
       e,
       within-yes (p .radius) (topOf (p .shape)) (share (p .shape) (p .radius)) (omega (arith, placed .radius-fits)),

@@ -5,13 +5,11 @@ use Prim.Native.Nat.{ℕ, _+_, _*_, _-_, _^_, _≤_, _<_}
 use lib.ListN.{getD, length, set}
 use Rattle.plate.specs.Fixed.{planesInAll, wordBits}
 use Rattle.plate.specs.Layout.{Size, padded}
-use Rattle.plate.specs.Lent.{State, stateOf, Lent}
+use Rattle.plate.specs.Lent.{State, Lent}
 use Rattle.plate.specs.Word.{wordOf}
 use Rattle.plate.specs.Kernel.{markCount}
-use Rattle.plate.specs.Refusal.{Answer, Accepted}
 use Rattle.plate.specs.Change.{Change}
 use Rattle.plate.specs.Marks.{exchanged}
-use Rattle.plate.specs.Calls.{answerOf}
 use Rattle.plate.specs.code.Bounds.{LawfulSize, Fits}
 
 -- a change of a lawful plate whose planes have n cells in all: a place of it, and two of its pixels
@@ -24,9 +22,9 @@ pub record Changeable (z : Size) (c : Change) (n : ℕ) : Type 0 where
   pub old-fits : Fits (z .reach) (c .old)
   pub new-fits : Fits (z .reach) (c .new)
 
--- the answer of a change, and what it leaves of planes and pixels
-pub record Changed (z : Size) (count : ℕ) (c : Change) (planes pixels : List ℕ) (a : Answer) (planes' pixels' : List ℕ) : Type 0 where
-  pub answer-is : a ≡ answerOf Accepted (markCount (c .old) + markCount (c .new)) (stateOf z count)
+-- the marks that a change moves, and what it leaves of planes and pixels
+pub record Changed (z : Size) (c : Change) (planes pixels : List ℕ) (marks : ℕ) (planes' pixels' : List ℕ) : Type 0 where
+  pub marks-are : marks ≡ markCount (c .old) + markCount (c .new)
   pub planes-are : planes' ≡ exchanged z (c .place) (c .old) (c .new) planes
   pub pixels-are : pixels' ≡ set pixels (c .place) (wordOf (c .new))
 

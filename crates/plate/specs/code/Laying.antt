@@ -1,7 +1,7 @@
 -- How the code lays a kernel: the marks of its drawing, counted from the drawing's corner, each in light and in matte at once.
 use mathlib.Core.Path.{_≡_}
 use mathlib.Core.List.{List, [], _∷_}
-use Prim.Native.Nat.{ℕ, suc, _+_, _*_, _%_, _^_, _≤_, _<_}
+use Prim.Native.Nat.{ℕ, suc, _+_, _*_, _-_, _%_, _^_, _≤_, _<_}
 use Rattle.kernels.specs.Fixed.{planesEach, level, margin}
 use Rattle.kernels.specs.Choice.{pick}
 use Rattle.kernels.specs.declared.mark.Boxes.{Boxes}
@@ -11,7 +11,8 @@ use Rattle.kernels.specs.code.Drawing.{pieceMarks}
 use Rattle.kernels.specs.declared.mark.Drawing.{Drawing}
 use Rattle.kernels.specs.declared.mark.Drawing.the-variants.{Grid, Lines}
 use Rattle.kernels.specs.declared.share.Share.{Share}
-use Rattle.kernels.specs.Shape.{topUnder}
+use Rattle.kernels.specs.declared.shape.Shape.{Shape}
+use Rattle.kernels.specs.Shape.{reachOf, topUnder}
 use Rattle.kernels.specs.Mark.{Mark, mark, sign, choose, marksTo, tapMarks}
 use Rattle.plate.specs.Fixed.{planesInAll}
 use Rattle.plate.specs.Layout.{columnOf, rowOf}
@@ -84,15 +85,30 @@ pub record ColumnIn (g : Ground) (b : Boxes) (x n : ℕ) : Type 0 where
   pub two-at-least : 2 ≤ b .count
   pub three-at-most : b .count ≤ 3
 
--- a pixel at (x, y) of a plate: its frame, the n cells of its planes, and a radius that keeps to its reach
-pub record Placed (f : Frame) (n x y : ℕ) (p : Pixel) : Type 0 where
+-- PIXELS
+-- a pixel at (x, y) of a plate with its frame, and a radius that keeps to its reach
+pub record Placed (f : Frame) (x y : ℕ) (p : Pixel) : Type 0 where
   pub framed : f ≡ frameOf (f .size)
-  pub planes-are : n ≡ planesInAll * f .padded
   pub column-in : x < f .size .width
   pub row-in : y < f .size .height
   pub radius-fits : p .radius ≤ topUnder (p .shape) (f .size .reach)
 
--- the taps of its kernel, laid with a worth
+-- a kernel's marks, counted from the corner of its drawing
+abbrev pub ownMarks : Shape → ℕ → List Mark
+ownMarks s r = tapMarks s r (reachOf s r + margin) (reachOf s r + margin)
+
+-- a corner on a plate
+abbrev pub groundOf : Frame → ℕ → Ground
+groundOf f corner = record { wide = f .wide; padded = f .padded; corner = corner }
+
+-- what a pixel's kernel leaves of the reach on each side, and the cell of its corner
+abbrev pub spare : Frame → Pixel → ℕ
+spare f p = f .size .reach - reachOf (p .shape) (p .radius)
+
+abbrev pub cornerOf : Frame → ℕ → ℕ → Pixel → ℕ
+cornerOf f x y p = (y + spare f p) * f .wide + (x + spare f p)
+
+-- the taps of its kernel around it, laid with a worth
 abbrev pub kernelAt : Frame → ℕ → ℕ → Pixel → Worth → List Mark
 kernelAt f x y p w =
     let i = y * f .size .width + x in

@@ -14,15 +14,13 @@ use Rattle.plate.proofs.exchange.exchange_marks.Tie as tie
 use Rattle.plate.specs.code.Bounds.{Fits}
 
 -- a pixel of the change at its place
-placed : (c : tie.After-frame-of) (n : ℕ) → let a = c .before .before .args in
-    (p : Pixel) → n ≡ length (now (a .planes)) → Fits (a .size .reach) p
-    → Placed (c .frame-of .result) n (a .change .x) (a .change .y) p
-placed c n p e fits =
+placed : (c : tie.After-frame-of) → let a = c .before .before .args in
+    (p : Pixel) → Fits (a .size .reach) p → Placed (c .frame-of .result) (a .change .x) (a .change .y) p
+placed c p fits =
     let s = c .before .before in
     rw (c .frame-of .ensures)
     (record {
       framed = refl;
-      planes-are = e ∙ s .pre .planes-are;
       column-in = s .pre .column-in;
       row-in = s .pre .row-in;
       radius-fits = fits .radius-fits;
@@ -45,7 +43,8 @@ take-pixel-requires c κs =
     let old-share = c .before .before .before in
     let shared = old-share .before .before .before .before in
     let framed = shared .before in (
-      placed framed _ _ refl (framed .before .before .pre .old-fits),
+      placed framed _ (framed .before .before .pre .old-fits),
+      rw (framed .frame-of .ensures) (framed .before .before .pre .planes-are),
       old-share .share-in .ensures ∙ rw (shared .shares .ensures) (table-share _ _),
     )
 
@@ -54,7 +53,8 @@ lay-pixel-requires c κs =
     let new-share = c .before .before .before .before .before in
     let shared = new-share .before .before .before .before .before .before in
     let framed = shared .before in (
-      placed framed _ _ (search needs) (framed .before .before .pre .new-fits),
+      placed framed _ (framed .before .before .pre .new-fits),
+      rw (framed .frame-of .ensures) (search needs ∙ framed .before .before .pre .planes-are),
       new-share .share-in2 .ensures ∙ rw (shared .shares .ensures) (table-share _ _),
     )
 

@@ -47,11 +47,11 @@ lay-pixel-requires c κs =
     let h = start .pre in (
       record {
         framed = h .0 .framed;
-        planes-are = rw (h .0 .framed) (h .0 .planes-are);
         column-in = h .2 .column-in;
         row-in = h .2 .row-in;
         radius-fits = omega (arith, radius known, h .0 .top-is);
       },
+      rw (h .0 .framed) (h .0 .planes-are),
       shared .share-in .ensures ∙ rw (h .1) (table-share _ _),
     )
 

@@ -5,6 +5,13 @@ use Rattle.plate.specs.Calls.{changed, putBy}
 use Rattle.plate.proofs.put.log_and_exchange.Statement.{statement}
 use Rattle.plate.proofs.put.log_and_exchange.Tie as tie
 
+-- where the call starts, and where the word is packed
+abbrev start : tie.After-pack-entry → tie.Start
+start c = c .before .before .before .before .before
+
+abbrev packed : tie.After-exchange → tie.After-pack-entry
+packed c = c .before .before .before .before
+
 mul-pack-entry : tie.Need-mul-pack-entry
 mul-pack-entry c = omega (arith, c .before .before .before .pre .place-small)
 
@@ -15,19 +22,21 @@ pack-entry-requires : tie.Need-pack-entry-requires
 pack-entry-requires c κs = let h = c .before .before .before .before .pre in (h .word-small, h .place-small)
 
 mul-log : tie.Need-mul-log
-mul-log c =
-    let s = c .before .before .before .before .before in omega (arith, s .pre .has-room, s .good)
+mul-log c = let s = start c in omega (arith, s .pre .has-room, s .good)
 
 slice-write-log : tie.Need-slice-write-log
-slice-write-log c = c .before .before .before .before .before .pre .has-room
-
-add-exchange : tie.Need-add-exchange
-add-exchange c =
-    let s = c .before .before .before .before .before in omega (arith, s .pre .has-room, s .good)
+slice-write-log c = start c .pre .has-room
 
 exchange-requires : tie.Need-exchange-requires
 exchange-requires c κs =
-    let h = c .before .before .before .before .before .before .before .pre in (h .changeable, h .place-in)
+    let h = start (c .before .before .before) .pre in (h .changeable, h .place-in)
+
+add-accepted : tie.Need-add-accepted
+add-accepted c =
+    let s = start (packed (c .before .before .before .before)) in omega (arith, s .pre .has-room, s .good)
+
+accepted-requires : tie.Need-accepted-requires
+accepted-requires c κs = search needs
 
 same-length : tie.Need-same-length
 same-length c = search needs
@@ -41,9 +50,9 @@ same-length-3 c = search needs
 returns : tie.Need-returns
 unfolding putBy changed
 returns c =
-    let made = c .before .before .before .before in
+    let made = c .before .before .before .before .before in
     let h = made .exchange .ensures in
-    rw (h .answer-is, h .planes-are, h .pixels-are, made .before .before .before .pack-entry .ensures)
+    rw (c .accepted .ensures, h .marks-are, h .planes-are, h .pixels-are, packed made .pack-entry .ensures)
 
 pub log-and-exchange-spec : {M : Type 1} → statement M
 log-and-exchange-spec =
@@ -54,8 +63,9 @@ log-and-exchange-spec =
     pack-entry-requires
     mul-log
     slice-write-log
-    add-exchange
     exchange-requires
+    add-accepted
+    accepted-requires
     same-length
     same-length-2
     same-length-3

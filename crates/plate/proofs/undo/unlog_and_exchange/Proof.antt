@@ -15,7 +15,11 @@ slice-write-log : tie.Need-slice-write-log
 slice-write-log c = c .before .before .before .pre .last-in
 
 exchange-requires : tie.Need-exchange-requires
-exchange-requires c κs = let h = c .before .before .before .before .before .pre in (h .changeable, h .place-in)
+exchange-requires c κs =
+    let h = c .before .before .before .before .before .before .pre in (h .changeable, h .place-in)
+
+accepted-requires : tie.Need-accepted-requires
+accepted-requires c κs = search needs
 
 same-length : tie.Need-same-length
 same-length c = search needs
@@ -29,8 +33,8 @@ same-length-3 c = search needs
 returns : tie.Need-returns
 unfolding undoBy changed
 returns c =
-    let h = c .before .before .before .before .exchange .ensures in
-    rw (h .answer-is, h .planes-are, h .pixels-are)
+    let h = c .before .before .before .before .before .exchange .ensures in
+    rw (c .accepted .ensures, h .marks-are, h .planes-are, h .pixels-are)
 
 pub unlog-and-exchange-spec : {M : Type 1} → statement M
 unlog-and-exchange-spec =
@@ -40,6 +44,7 @@ unlog-and-exchange-spec =
     mul-log
     slice-write-log
     exchange-requires
+    accepted-requires
     same-length
     same-length-2
     same-length-3
