@@ -53,7 +53,7 @@ returns c =
     let old = c .before in
     let packed = old .before in
     record {
-      marks-are = rw (old .mark-count .ensures, c .mark-count2 .ensures);
+      marks-are = omega (arith, old .mark-count .ensures, c .mark-count2 .ensures);
       planes-are = moved packed .exchange-marks .ensures;
       pixels-are = rw (packed .pack .ensures);
     }
