@@ -1,5 +1,6 @@
 -- The record program's numbers of the paper, each named once. The code's names for them are in src/fixed.rt.
 use Prim.Native.Nat.{ℕ, _*_}
+use Rattle.kernels.specs.Fixed.{shapeCount}
 use Rattle.plate.specs.Fixed.{planesInAll, scratchPlanes}
 
 -- 16: "P above 512"
@@ -27,9 +28,9 @@ putBody = 9
 abbrev pub longestBody : ℕ
 longestBody = putBody
 
--- a number that names no shape: 6, "shape above 5"
+-- a number that names no shape, the first after them: 6, "shape above 5"
 abbrev pub noShape : ℕ
-noShape = 6
+noShape = shapeCount
 
 -- the bytes that a call is lent for its text: no record writes more
 abbrev pub textRoom : ℕ

@@ -1,4 +1,5 @@
 // The record program's numbers of the paper, each named once, as in specs/Fixed.antt.
+use kernels::fixed::SHAPES;
 use plate::fixed::PLANES;
 use plate::fixed::SCRATCH_PLANES;
 
@@ -18,8 +19,8 @@ pub const PUT_BODY: usize = 9;
 
 pub const BODY: usize = PUT_BODY;
 
-// A number that names no shape.
-pub const NO_SHAPE: u8 = 6;
+// A number that names no shape: the first after them.
+pub const NO_SHAPE: u8 = SHAPES as u8;
 
 // The bytes that a call is lent for its text: no record writes more.
 pub const TEXT: usize = 4096;

@@ -50,16 +50,16 @@ module _ (s : State) (a : Ask) (l : Lent) (byte : a .opacity < 256) (c : Change)
         has-room = omega (arith, plate .count-in);
       })
 
-  put-by : (o : Outcome) → putCheck s a (sizedAs l) ≡ o → putReadBy o (s .size) a (l .pixels) ≡ ToChange c → PutReady s c l
+  put-ready-by : (o : Outcome) → putCheck s a (sizedAs l) ≡ o → putReadBy o (s .size) a (l .pixels) ≡ ToChange c → PutReady s c l
   unfolding putReadBy putCheck
-  put-by (Refused f) k e = no-change f c e
-  put-by Accepted k e =
+  put-ready-by (Refused f) k e = no-change f c e
+  put-ready-by Accepted k e =
       let plate = plate-accepted s (sizedAs l) _ k in
       put-whole (plate .0) (ask-accepted (s .size) (s .count) (length (l .log)) a (plate .1)) _ refl e
 
   pub put-ready : putRead s a (sizedAs l) (l .pixels) ≡ ToChange c → PutReady s c l
   unfolding putRead
-  put-ready e = put-by (putCheck s a (sizedAs l)) refl e
+  put-ready e = put-ready-by (putCheck s a (sizedAs l)) refl e
 
 -- UNDO
 module _ (s : State) (l : Lent) (c : Change) (plate : PlateAccepted s (sizedAs l)) (some : 1 ≤ s .count) where
@@ -95,14 +95,14 @@ module _ (s : State) (l : Lent) (c : Change) (plate : PlateAccepted s (sizedAs l
   undo-logged Unreadable w q = no-change _ c q
   undo-logged (Logged e) w q = let h = entry-read (s .size) _ e w in undo-whole e (h .0) (h .1) _ refl q
 
-undo-by : (s : State) (l : Lent) (c : Change) (o : Outcome) → undoCheck s (sizedAs l) ≡ o → undoReadBy o s (l .pixels) (l .log) ≡ ToChange c
+undo-ready-by : (s : State) (l : Lent) (c : Change) (o : Outcome) → undoCheck s (sizedAs l) ≡ o → undoReadBy o s (l .pixels) (l .log) ≡ ToChange c
     → UndoReady s c l
 unfolding undoReadBy undoCheck
-undo-by s l c (Refused f) k q = no-change f c q
-undo-by s l c Accepted k q =
+undo-ready-by s l c (Refused f) k q = no-change f c q
+undo-ready-by s l c Accepted k q =
     let plate = plate-accepted s (sizedAs l) _ k in
     undo-logged s l c (plate .0) (some-accepted s (plate .1)) _ refl q
 
 pub undo-ready : (s : State) (l : Lent) (c : Change) → undoRead s (sizedAs l) (l .pixels) (l .log) ≡ ToChange c → UndoReady s c l
 unfolding undoRead
-undo-ready s l c q = undo-by s l c (undoCheck s (sizedAs l)) refl q
+undo-ready s l c q = undo-ready-by s l c (undoCheck s (sizedAs l)) refl q

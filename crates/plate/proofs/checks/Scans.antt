@@ -31,16 +31,16 @@ either false = refl
 abbrev pub NoneTo : (ℕ → Bool) → List ℕ → ℕ → Type 0
 NoneTo t ns k = (i : ℕ) → i < k → t (getD ns i 0) ≡ false
 
-none : (t : ℕ → Bool) (ns : List ℕ) → NoneTo t ns (length ns) → anyOf t ns ≡ false
+none-passes : (t : ℕ → Bool) (ns : List ℕ) → NoneTo t ns (length ns) → anyOf t ns ≡ false
 unfolding anyOf
-none t [] h = refl
-none t (n ∷ ns) h = rw (h 0 (omega arith)) (none t ns (λ i l. h (suc i) (omega arith)))
+none-passes t [] h = refl
+none-passes t (n ∷ ns) h = rw (h 0 (omega arith)) (none-passes t ns (λ i l. h (suc i) (omega arith)))
 
-one : (t : ℕ → Bool) (ns : List ℕ) (k : ℕ) → k < length ns → t (getD ns k 0) ≡ true → anyOf t ns ≡ true
+one-passes : (t : ℕ → Bool) (ns : List ℕ) (k : ℕ) → k < length ns → t (getD ns k 0) ≡ true → anyOf t ns ≡ true
 unfolding anyOf
-one t [] k h a = absurd (omega arith)
-one t (n ∷ ns) zero h a = rw a
-one t (n ∷ ns) (suc k) h a = rw (one t ns k (omega arith) a) (either (t n))
+one-passes t [] k h a = absurd (omega arith)
+one-passes t (n ∷ ns) zero h a = rw a
+one-passes t (n ∷ ns) (suc k) h a = rw (one-passes t ns k (omega arith) a) (either (t n))
 
 none-of : (t : ℕ → Bool) (ns : List ℕ) → anyOf t ns ≡ false → NoneTo t ns (length ns)
 unfolding anyOf
@@ -58,7 +58,7 @@ none-above b (n ∷ ns) e (suc i) = none-above b ns (neither (ltb b n) (anyAbove
 -- SCANS
 -- after the last row
 pub none-found : (t : ℕ → Bool) (ns : List ℕ) (w h y : ℕ) → length ns ≡ w * h → h ≤ y → NoneTo t ns (y * w) → anyOf t ns ≡ false
-none-found t ns w h y e l p = none t ns (λ i q. p i (omega (arith, mul-le-mul-right w l)))
+none-found t ns w h y e l p = none-passes t ns (λ i q. p i (omega (arith, mul-le-mul-right w l)))
 
 -- each of the first k numbers has 32 bits
 abbrev pub SmallTo : List ℕ → ℕ → Type 0
@@ -76,7 +76,7 @@ small-all ns w h y e l s = small-past ns (y * w) (omega (arith, mul-le-mul-right
 -- at a number that passes the test
 pub one-found : (t : ℕ → Bool) (ns : List ℕ) (w h x y : ℕ) → length ns ≡ w * h → x < w → y < h → t (getD ns (y * w + x) 0) ≡ true
     → anyOf t ns ≡ true
-one-found t ns w h x y e p q a = one t ns (y * w + x) (omega (arith, row-in y w h q)) a
+one-found t ns w h x y e p q a = one-passes t ns (y * w + x) (omega (arith, row-in y w h q)) a
 
 -- numbers of 32 bits: above the one bound and not above the largest is above the bound
 above-is : (b n : ℕ) → n ≤ numberTop → isBetween b numberTop n ≡ ltb b n
@@ -91,19 +91,19 @@ unfolding isBetween
 between-is b n e = by-lt b n (λ l. lt-ltb b n l) (λ l. true-not (sym (rw (le-leb n b l) at e)))
 
 -- a test that holds where another does is passed where the other is
-more : (t u v w : Bool) → (t ≡ true → v ≡ true) → (u ≡ true → w ≡ true) → pick t true u ≡ true → pick v true w ≡ true
-more true u v w f g e = rw (f refl)
-more false u v w f g e = rw (g e) (either v)
+passes-too : (t u v w : Bool) → (t ≡ true → v ≡ true) → (u ≡ true → w ≡ true) → pick t true u ≡ true → pick v true w ≡ true
+passes-too true u v w f g e = rw (f refl)
+passes-too false u v w f g e = rw (g e) (either v)
 
 some-above : (b : ℕ) (ns : List ℕ) → anyOf (isBetween b numberTop) ns ≡ true → anyAbove b ns ≡ true
 unfolding anyOf
 some-above b [] e = e
 some-above b (n ∷ ns) e =
-    more (isBetween b numberTop n) (anyOf (isBetween b numberTop) ns) (ltb b n) (anyAbove b ns) (between-is b n) (some-above b ns) e
+    passes-too (isBetween b numberTop n) (anyOf (isBetween b numberTop) ns) (ltb b n) (anyAbove b ns) (between-is b n) (some-above b ns) e
 
 pub above-found : (b : ℕ) (ns : List ℕ) (r : Bool) → r ≡ anyOf (isBetween b numberTop) ns
     → (r ≡ false → (i : ℕ) → getD ns i 0 ≤ numberTop) → r ≡ anyAbove b ns
 above-found b ns true e small = sym (some-above b ns (sym e))
 above-found b ns false e small =
-    sym (none (ltb b) ns
+    sym (none-passes (ltb b) ns
     (λ i l. sym (above-is b (getD ns i 0) (small refl i)) ∙ none-of (isBetween b numberTop) ns (sym e) i l))

@@ -81,21 +81,21 @@ sum-set f g i (suc n) h p =
     omega (arith, sum-ext-lt f g n (λ j l. h j (omega arith)), ap f e, ap g e))
 
 -- what the pixel at a place lays on a cell
-laid : Size → List Pixel → ℕ → ℕ → ℕ
-laid z grid k i = total z k (pixelMarks z i (pixelAt grid i))
+laidOn : Size → List Pixel → ℕ → ℕ → ℕ
+laidOn z grid k i = total z k (pixelMarks z i (pixelAt grid i))
 
 changed-cell : (z : Size) (room : ℕ) (planes : List ℕ) (grid : List Pixel) (pile : List Entry) (i : ℕ) (new : Pixel)
     → Mirrored z room planes grid pile → i < places z → (k : ℕ) → k < planesInAll * padded z
     → getD (exchanged z i (pixelAt grid i) new planes) k 0 ≡ gridCell z (set grid i new) k
-unfolding gridCell laid
+unfolding gridCell laidOn
 changed-cell z room planes grid pile i new kept h k b =
     let after = set grid i new in
-    let one : sum (laid z after k) (places z) + laid z grid k i ≡ sum (laid z grid k) (places z) + laid z after k i =
-    sum-set (laid z grid k) (laid z after k) i (places z)
+    let one : sum (laidOn z after k) (places z) + laidOn z grid k i ≡ sum (laidOn z grid k) (places z) + laidOn z after k i =
+    sum-set (laidOn z grid k) (laidOn z after k) i (places z)
     (λ j n. ap (λ (p : Pixel). total z k (pixelMarks z j p)) (sym (getD-set-other grid i j new _ n)))
     h in
     let here : pixelAt after i ≡ new = getD-set-same grid i new _ (omega (arith, kept .grid-size)) in
-    exchanged-cell z i (pixelAt grid i) new planes k (sum (laid z grid k) (places z)) (sum (laid z after k) (places z))
+    exchanged-cell z i (pixelAt grid i) new planes k (sum (laidOn z grid k) (places z)) (sum (laidOn z after k) (places z))
     (omega (arith, kept .cells-count)) (kept .each-cell k b) (rw here at one)
 
 pub one-changed : (z : Size) (room : ℕ) (planes : List ℕ) (grid : List Pixel) (pile pile' : List Entry) (i : ℕ) (new : Pixel)
@@ -180,12 +180,12 @@ module _ (z : Size) (room : ℕ) (planes : List ℕ) (grid : List Pixel) (pile :
             (ok .place-in, kept .grid-fits i, kept .pile-fits);
       })
 
-  put-by : (a : Ask) → a .opacity < 256 → (o : Outcome) → askCheck z (length pile) room a ≡ o
+  put-agrees-by : (a : Ask) → a .opacity < 256 → (o : Outcome) → askCheck z (length pile) room a ≡ o
       → Agree z room
       (stepOf (putBy (putReadBy o z a (map wordOf grid)) (stateOf z (length pile)) (heldBy room planes grid pile)))
       (bookPutBy o (bookOf z room grid pile) a)
-  put-by a byte Accepted e = put-done a byte (ask-accepted z (length pile) room a e)
-  put-by a byte (Refused f) e = unfold putBy putReadBy bookPutBy in (agree-refused f)
+  put-agrees-by a byte Accepted e = put-done a byte (ask-accepted z (length pile) room a e)
+  put-agrees-by a byte (Refused f) e = unfold putBy putReadBy bookPutBy in (agree-refused f)
 
   pub put-agrees : (a : Ask) → a .opacity < 256
       → Agree z room
@@ -194,7 +194,7 @@ module _ (z : Size) (room : ℕ) (planes : List ℕ) (grid : List Pixel) (pile :
   unfolding putCall putRead bookPut putCheck
   put-agrees a byte =
       rw (checks-kept (askCheck z (length pile) (length (logBy room pile)) a), log-length room pile)
-      (put-by a byte (askCheck z (length pile) room a) refl)
+      (put-agrees-by a byte (askCheck z (length pile) room a) refl)
 
 -- UNDO
 undo-done : (z : Size) (room : ℕ) (planes : List ℕ) (grid : List Pixel) (e : Entry) (pile : List Entry)
@@ -227,13 +227,13 @@ undo-done z room planes grid e pile kept =
           (omega (arith, kept .height-fits)) (fits .2);
     })
 
-undo-by : (z : Size) (room : ℕ) (planes : List ℕ) (grid : List Pixel) (pile : List Entry) → Mirrored z room planes grid pile →
+undo-agrees-by : (z : Size) (room : ℕ) (planes : List ℕ) (grid : List Pixel) (pile : List Entry) → Mirrored z room planes grid pile →
     let s = stateOf z (length pile) in
     let l = heldBy room planes grid pile in
     Agree z room (stepOf (undoBy (undoReadBy (emptyCheck (length pile) Accepted) s (l .pixels) (l .log)) s l)) (bookUndoOf z room grid pile)
-undo-by z room planes grid [] kept =
+undo-agrees-by z room planes grid [] kept =
     unfold undoBy undoReadBy bookUndoOf refuseIf in (agree-refused z room planes grid [] kept LogEmpty)
-undo-by z room planes grid (e ∷ pile) kept =
+undo-agrees-by z room planes grid (e ∷ pile) kept =
     rw (passes (eqb (suc (length pile)) 0) LogEmpty Accepted (ne-eqb (suc (length pile)) 0 (omega arith)))
     (undo-done z room planes grid e pile kept)
 
@@ -243,4 +243,4 @@ pub undo-agrees : (z : Size) (room : ℕ) (planes : List ℕ) (grid : List Pixel
     (bookUndo (bookOf z room grid pile))
 unfolding undoCall undoRead undoCheck bookUndo
 undo-agrees z room planes grid pile kept =
-    rw (checks-kept z room planes grid pile kept (emptyCheck (length pile) Accepted)) (undo-by z room planes grid pile kept)
+    rw (checks-kept z room planes grid pile kept (emptyCheck (length pile) Accepted)) (undo-agrees-by z room planes grid pile kept)

@@ -64,15 +64,15 @@ abbrev allLaid : Size → List Pixel → (Pixel → ℕ) → List Mark
 allLaid z grid worth = marksTo (gridLaid z grid worth) (places z)
 
 -- in a picture's planes from p on, a pixel's marks are those of that picture
-abbrev LaidFrom : Size → List Pixel → ℕ → (Pixel → ℕ) → Type 0
-LaidFrom z grid p worth =
+abbrev InPicture : Size → List Pixel → ℕ → (Pixel → ℕ) → Type 0
+InPicture z grid p worth =
     (i : ℕ) → i < places z → (d x y : ℕ) → d < planesEach → x < wide z → y < high z
     → total z (cell z (p + d) x y) (pixelMarks z i (pixelAt grid i)) ≡ planesOf (gridLaid z grid worth i) d x y
 
 module _ (z : Size) (planes : List ℕ) (grid : List Pixel) (law : LawfulSize z)
     (cells : (k : ℕ) → k < planesInAll * padded z → getD planes k 0 ≡ gridCell z grid k)
     (fits : (i : ℕ) → Fits (z .reach) (pixelAt grid i))
-    (p : ℕ) (low : p ≤ planesEach) (worth : Pixel → ℕ) (from : LaidFrom z grid p worth)
+    (p : ℕ) (low : p ≤ planesEach) (worth : Pixel → ℕ) (from : InPicture z grid p worth)
   where
     -- the planes hold the marks of all pixels
     stored-inside : (d x y : ℕ) → d < planesEach → x < wide z → y < high z

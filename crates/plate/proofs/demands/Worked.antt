@@ -28,40 +28,40 @@ buffers = lent (zeros 1386) (zeros 3) (zeros 64)
 abbrev pictures : Views
 pictures = views (zeros 297) (zeros 3) (zeros 3)
 
-abbrev full : Byte
-full = record { code = 255; small = lit< tt }
+abbrev byte-255 : Byte
+byte-255 = record { code = 255; small = lit< tt }
 
-abbrev one : Byte
-one = record { code = 1; small = lit< tt }
+abbrev byte-1 : Byte
+byte-1 = record { code = 1; small = lit< tt }
 
-abbrev none : Byte
-none = record { code = 0; small = lit< tt }
+abbrev byte-0 : Byte
+byte-0 = record { code = 0; small = lit< tt }
 
 -- put, put, show, undo, show
 abbrev pub run : List Call
-run = putIt 1 0 100 full 0 one ∷ putIt 0 0 40 full 0 none ∷ showIt pictures ∷ undoIt ∷ showIt pictures ∷ []
+run = putIt 1 0 100 byte-255 0 byte-1 ∷ putIt 0 0 40 byte-255 0 byte-0 ∷ showIt pictures ∷ undoIt ∷ showIt pictures ∷ []
 
-abbrev shows : List ℕ → List ℕ → Report
-shows values mattes = record { number = 0; marks = 0; pictures = both values mattes }
+abbrev shownOnce : List ℕ → List ℕ → Report
+shownOnce values mattes = record { number = 0; marks = 0; pictures = both values mattes }
 
 -- "46/255 100/28 100/28" and "100/28 100/28 100/28"; a box and a box are 8 marks
 abbrev pub runReports : List Report
 runReports =
     plain 0 8
     ∷ plain 0 8
-    ∷ shows (46 ∷ 100 ∷ 100 ∷ []) (255 ∷ 28 ∷ 28 ∷ [])
+    ∷ shownOnce (46 ∷ 100 ∷ 100 ∷ []) (255 ∷ 28 ∷ 28 ∷ [])
     ∷ plain 0 8
-    ∷ shows (100 ∷ 100 ∷ 100 ∷ []) (28 ∷ 28 ∷ 28 ∷ [])
+    ∷ shownOnce (100 ∷ 100 ∷ 100 ∷ []) (28 ∷ 28 ∷ 28 ∷ [])
     ∷ []
 
 pub book-run : bookReports (openBook small 64) run ≡ runReports
 unfolding bookReports bookStep bookPut bookPutBy bookUndo bookUndoOf bookShow bookShowBy askCheck placeCheck kernelCheck refuseIf viewsCheck plainValues plainMattes plainSum listTo weight share area tap sum within shownValue shownMatte nearest
 book-run = refl
 
-opened : openCheck small (sizedAs buffers) ≡ Accepted
+open-accepted : openCheck small (sizedAs buffers) ≡ Accepted
 unfolding openCheck sizesCheck lentCheck refuseIf
-opened = refl
+open-accepted = refl
 
 -- so the plate reports it too
 pub plate-run : plateReports (leftBy (openCall small buffers)) run ≡ runReports
-plate-run = demand-3 small buffers run opened .0 ∙ book-run
+plate-run = demand-3 small buffers run open-accepted .0 ∙ book-run

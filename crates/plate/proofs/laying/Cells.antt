@@ -68,13 +68,13 @@ pub record InPlane (z : Size) (m : Mark) : Type 0 where
   pub column-in : m .column < wide z
   pub row-in : m .row < high z
 
-near-inside : (z : Size) (d X Y : ℕ) (ms : List Mark) → X + d < wide z → Y + d < high z → Each (Near d X Y) ms
+near-in-plane : (z : Size) (d X Y : ℕ) (ms : List Mark) → X + d < wide z → Y + d < high z → Each (Near d X Y) ms
     → Each (InPlane z) ms
 unfolding Each
-near-inside z d X Y [] p q h = tt
-near-inside z d X Y (m ∷ ms) p q h = (
+near-in-plane z d X Y [] p q h = tt
+near-in-plane z d X Y (m ∷ ms) p q h = (
   record { plane-in = h .0 .plane-in; column-in = omega (arith, h .0); row-in = omega (arith, h .0) },
-  near-inside z d X Y ms p q (h .1),
+  near-in-plane z d X Y ms p q (h .1),
 )
 
 -- "r is also at most R / n rounded down", so that the kernel reaches at most R
@@ -92,7 +92,7 @@ marks-inside z i p law fits h =
     let R = z .reach in
     let c : i % z .width < z .width = mod-lt i (law .width-some) in
     let l : i / z .width < z .height = row-of i (z .width) (z .height) (law .width-some) h in
-    near-inside z (R + margin) (columnOf z i) (rowOf z i) (kernelOf p (columnOf z i) (rowOf z i))
+    near-in-plane z (R + margin) (columnOf z i) (rowOf z i) (kernelOf p (columnOf z i) (rowOf z i))
     (omega arith)
     (omega arith)
     (marks-near (p .shape) (p .radius) R (columnOf z i) (rowOf z i)
@@ -102,11 +102,11 @@ marks-inside z i p law fits h =
 
 -- WHAT LIES ON A CELL
 -- w in plane q at a mark's column and row, else 0
-abbrev markAt : ℕ → Mark → ℕ → ℕ → ℕ → ℕ → ℕ
-markAt q m w p x y = same p q (same x (m .column) (same y (m .row) w))
+abbrev atMark : ℕ → Mark → ℕ → ℕ → ℕ → ℕ → ℕ
+atMark q m w p x y = same p q (same x (m .column) (same y (m .row) w))
 
 module _ (z : Size) (light matte d x y : ℕ) (px : x < wide z) (py : y < high z) where
-  one-mark : (p q w : ℕ) (m : Mark) → InPlane z m → same (cell z p x y) (cell z q (m .column) (m .row)) w ≡ markAt q m w p x y
+  one-mark : (p q w : ℕ) (m : Mark) → InPlane z m → same (cell z p x y) (cell z q (m .column) (m .row)) w ≡ atMark q m w p x y
   one-mark p q w m a = same-cell z p x y q (m .column) (m .row) w px py (a .column-in) (a .row-in)
 
   -- of marks that are laid in light and in matte

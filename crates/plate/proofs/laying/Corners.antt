@@ -51,16 +51,16 @@ abbrev groundIn : Size → ℕ → ℕ → Ground
 groundIn z a b = groundOf (frameOf z) (b * wide z + a)
 
 -- marks near enough to a pixel lie in the planes
-near-inside : (z : Size) (a b c d X Y : ℕ) → X + d < wide z → Y + d < high z → (ms : List Mark)
+near-in-ground : (z : Size) (a b c d X Y : ℕ) → X + d < wide z → Y + d < high z → (ms : List Mark)
     → Each (Near d X Y) (scaled c (moved a b ms)) → AllIn (groundIn z a b) ms
 unfolding Each scaled moved AllIn
-near-inside z a b c d X Y p q [] h = tt
-near-inside z a b c d X Y p q (m ∷ ms) h =
+near-in-ground z a b c d X Y p q [] h = tt
+near-in-ground z a b c d X Y p q (m ∷ ms) h =
     let n = h .0 in
     let right = n .right-in in
     let bottom = n .bottom-in in (
       cell-in (wide z) (high z) a b (m .plane) (m .column) (m .row) (n .plane-in) (omega arith) (omega arith),
-      near-inside z a b c d X Y p q ms (h .1),
+      near-in-ground z a b c d X Y p q ms (h .1),
     )
 
 -- LAID
@@ -135,7 +135,7 @@ module _ (f : Frame) (x y : ℕ) (p : Pixel) (placed : Placed f x y p) where
       let column = column-at z x y right in
       let row = row-at z x y right in
       rw (placed .framed)
-      (near-inside z _ _ (share (p .shape) (p .radius)) (R + margin) X Y (omega arith) (omega arith) (ownMarks (p .shape) (p .radius))
+      (near-in-ground z _ _ (share (p .shape) (p .radius)) (R + margin) X Y (omega arith) (omega arith) (ownMarks (p .shape) (p .radius))
       (rw (around z x y (p .shape) (p .radius) right reaches) at
       (marks-near (p .shape) (p .radius) R X Y reaches (omega arith) (omega arith))))
 
@@ -189,8 +189,8 @@ unfolding boxGrid
 grid-length p n l x y =
     length-to _ (suc n) (suc n) (λ i. length-to _ 1 (suc n) (λ j. refl) ∙ omega arith)
 
-few : (n k : ℕ) → suc n * suc n ≡ k → 4 ≤ k → k ≤ 16 → (1 ≤ n) × (n ≤ 3)
-few n k e h g =
+one-to-three : (n k : ℕ) → suc n * suc n ≡ k → 4 ≤ k → k ≤ 16 → (1 ≤ n) × (n ≤ 3)
+one-to-three n k e h g =
     by-lt n 1 (λ p. let q : suc n * suc n ≤ 1 * 1 = product-le (suc n) (suc n) 1 1 (omega arith) (omega arith) in absurd (omega arith))
     (λ p. by-lt 3 n (λ q. let r : 5 * 5 ≤ suc n * suc n = product-le 5 5 (suc n) (suc n) (omega arith) (omega arith) in absurd (omega arith))
     (λ q. (p, q)))
@@ -198,7 +198,7 @@ few n k e h g =
 pub few-boxes : (d : Drawing) (s : Shape) (r X Y : ℕ) → drawnMarks d ≡ tapMarks s r X Y → FewBoxes d
 unfolding FewBoxes drawnMarks
 few-boxes (Grid b) s r X Y e =
-    few (b .count) (countOf s)
+    one-to-three (b .count) (countOf s)
     (sym (grid-length (b .plane) (b .count) (b .side) margin margin) ∙ ap length e ∙ tap-marks-count s r X Y)
     (count-few s .0)
     (count-few s .1)

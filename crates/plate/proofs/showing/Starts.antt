@@ -5,11 +5,8 @@ use native.Mathlib.Omega.{arith}
 use native.Mathlib.Nat.{mul-le-mul-right}
 use borrow.Author.Count.{below-none, below-more}
 use Rattle.kernels.proofs.numbers.Choices.{by-lt}
+use Rattle.plate.proofs.numbers.Extents.{row-in}
 use Rattle.plate.specs.code.Passes.{Picture, Starts, marksEnd, twoLines, fallingOneFrom, fallingTwoFrom, risingOneFrom, risingTwoFrom, downFrom, sumsEnd, fallingOneAt, fallingTwoAt, risingOneAt, risingTwoAt, startsAt, InOrder, sumStart}
-
--- a row of a plane lies in it
-pub row-in : (wide high row : ℕ) → row < high → row * wide + wide ≤ wide * high
-row-in wide high row l = omega (arith, mul-le-mul-right wide l)
 
 -- a row's lines that go 2 rows a column are the first or the second of that kind
 pub side-le : (row lines : ℕ) → (row % 2) * lines ≤ lines
@@ -63,7 +60,7 @@ pub in-order : (p : Picture) (row scratch planes : ℕ) → row < p .high → p 
 unfolding startsAt
 in-order p row scratch planes l narrow f g =
     let here = in-place p row (omega arith) in
-    let k = row-in (p .wide) (p .high) row l in
+    let k = row-in row (p .wide) (p .high) l in
     omega arith
 
 -- j is none of the n places from a on

@@ -5,7 +5,8 @@ use Prim.Native.Nat.{_+_, _*_, _-_, _%_, _≤_}
 use native.Mathlib.Omega.{arith}
 use borrow.Author.Needs.{needs}
 use Rattle.plate.specs.code.Passes.{startsAt, twoLines}
-use Rattle.plate.proofs.showing.Starts.{row-in, side-le}
+use Rattle.plate.proofs.numbers.Extents.{row-in}
+use Rattle.plate.proofs.showing.Starts.{side-le}
 use Rattle.plate.proofs.pass.starts_at.Statement.{statement}
 use Rattle.plate.proofs.pass.starts_at.Tie as tie
 
@@ -16,7 +17,7 @@ row-side c = side-le (c .args .row) (twoLines (c .args .picture))
 -- a row's marks are in a plane
 marks-in : (c : tie.Start)
     → c .args .row * c .args .picture .wide + c .args .picture .wide ≤ c .args .picture .wide * c .args .picture .high
-marks-in c = row-in (c .args .picture .wide) (c .args .picture .high) (c .args .row) (c .pre .0)
+marks-in c = row-in (c .args .row) (c .args .picture .wide) (c .args .picture .high) (c .pre .0)
 
 add-half : tie.Need-add-half
 add-half c = omega (arith, c .pre)

@@ -5,7 +5,7 @@ use Prim.Native.Nat.{_+_, _*_, _-_, _^_, _<_, _≤_}
 use native.Mathlib.Omega.{arith}
 use borrow.Author.Needs.{needs}
 use Rattle.plate.specs.code.Passes.{sumsEnd}
-use Rattle.plate.proofs.showing.Starts.{row-in}
+use Rattle.plate.proofs.numbers.Extents.{row-in}
 use Rattle.plate.proofs.showing.BothPictures.{both-on, matte-sums}
 use Rattle.plate.proofs.showing.Image.{ShowingAt, showing-start, shown-next}
 use Rattle.plate.proofs.show.show_rows.Statement.{statement}
@@ -33,7 +33,7 @@ made c = c .before .before .before
 place-in : (c : tie.In-loop Inv-loop μ-loop)
     → let image = start (made c) .args .image in
     c .before .loop .row * image .width + image .width ≤ image .width * image .height
-place-in c = row-in _ _ (c .before .loop .row) (c .loop-test .taken)
+place-in c = row-in (c .before .loop .row) _ _ (c .loop-test .taken)
 
 -- and far below 2 ^ 64
 below : (c : tie.In-loop Inv-loop μ-loop) → start (made c) .args .image .first + (c .before .loop .row + 1) < 2 ^ 64
