@@ -17,11 +17,10 @@ ghost use lib.ListN.{length};
 ghost use Rattle.kernels.specs.Fixed.{planesEach, margin};
 ghost use Rattle.kernels.specs.declared.mark.Drawing.the-variants.{Grid, Lines};
 ghost use Rattle.kernels.specs.Mark.{minus, boxGrid, scaled};
-ghost use Rattle.kernels.specs.Share.{shareParts};
 ghost use Rattle.kernels.specs.code.Drawing.{pieceMarks, drawnMarks};
 ghost use Rattle.plate.specs.Fixed.{planesInAll};
 ghost use Rattle.plate.specs.Marks.{layAll};
-ghost use Rattle.plate.specs.code.Laying.{Worth, times, worthOf, spot, layWorth, layDrawn, factor, levelMarks, columnMarks, ColumnIn, FewBoxes, Roomy, Placed, ownMarks, groundOf, cornerOf, marksAt};
+ghost use Rattle.plate.specs.code.Laying.{Worth, times, worthOf, spot, layWorth, layDrawn, factor, levelMarks, columnMarks, ColumnIn, FewBoxes, Roomy, Placed, PixelReady, ownMarks, groundOf, cornerOf, marksAt};
 
 // What a mark of coefficient 1 adds in light and in matte. Both wrap: to take a kernel off is to lay what wraps to its opposite.
 pub struct Worth {
@@ -126,53 +125,19 @@ fn lay_lines(planes: &mut [u64], g: Ground, o: Outline, w: Worth)
 {
     let minus = opposite(w);
     let top = o.top;
-    let bottom = o.bottom;
-    lay_piece(
-        planes,
-        g,
-        o.rising,
-        o.left,
-        top.edge,
-        o.turn,
-        top.level,
-        w,
-        minus,
-    );
+    let low = o.bottom;
+    let rise = o.rising;
+    let fall = o.falling;
+    let left = o.left;
+    let turn = o.turn;
+    let back = o.back;
+    let right = o.right;
+    lay_piece(planes, g, rise, left, top.edge, turn, top.level, w, minus);
     lay_level(planes, g, o, top, w, minus);
-    lay_piece(
-        planes,
-        g,
-        o.falling,
-        o.back,
-        top.level,
-        o.right,
-        top.past,
-        w,
-        minus,
-    );
-    lay_piece(
-        planes,
-        g,
-        o.falling,
-        o.left,
-        bottom.edge,
-        o.turn,
-        bottom.level,
-        minus,
-        w,
-    );
-    lay_level(planes, g, o, bottom, minus, w);
-    lay_piece(
-        planes,
-        g,
-        o.rising,
-        o.back,
-        bottom.level,
-        o.right,
-        bottom.past,
-        minus,
-        w,
-    );
+    lay_piece(planes, g, fall, back, top.level, right, top.past, w, minus);
+    lay_piece(planes, g, fall, left, low.edge, turn, low.level, minus, w);
+    lay_level(planes, g, o, low, minus, w);
+    lay_piece(planes, g, rise, back, low.level, right, low.past, minus, w);
 }
 
 // One box: neighbouring corners differ in sign.
@@ -307,7 +272,7 @@ pub(crate) fn lay_pixel(
     p: Pixel,
     share: Share,
 )
-    requires { ⌜ Placed frame x y p × (length (now planes) ≡ planesInAll * frame .padded) × (share ≡ shareParts (p .shape) (p .radius)) ⌝ }
+    requires { ⌜ PixelReady frame (length (now planes)) x y p share ⌝ }
     ensures { λ _. ⌜ now (planes .exit) ≡ layAll (frame .size) (now (planes .entry)) (marksAt frame x y p) ⌝ }
 {
     let shape = p.shape;
@@ -324,7 +289,7 @@ pub(crate) fn take_pixel(
     p: Pixel,
     share: Share,
 )
-    requires { ⌜ Placed frame x y p × (length (now planes) ≡ planesInAll * frame .padded) × (share ≡ shareParts (p .shape) (p .radius)) ⌝ }
+    requires { ⌜ PixelReady frame (length (now planes)) x y p share ⌝ }
     ensures { λ _. ⌜ now (planes .exit) ≡ layAll (frame .size) (now (planes .entry)) (scaled (minus 1) (marksAt frame x y p)) ⌝ }
 {
     let shape = p.shape;

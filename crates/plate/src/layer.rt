@@ -192,7 +192,7 @@ fn clear_both(planes: &mut [u64], log: &mut [u64])
     clear(log);
 }
 
-// Replaces every mark and every pixel, and empties the log: no marks are reported. The table of shares is copied once for all
+// Replaces every mark and every pixel, and empties the log: no marks are reported. The table of shares is made once for all
 // pixels.
 pub(crate) fn refill(
     planes: &mut [u64],

@@ -18,8 +18,8 @@ use Rattle.plate.specs.Lists.{Byte, Call, putIt, undoIt, showIt, leftBy,
 use Rattle.plate.proofs.demands.Demand.{demand-3}
 
 -- "open (W 2 bytes, H 2, R 1)": 3 × 1, reach 1; "The log has 64 entries."
-abbrev pub small : Size
-small = record { width = 3; height = 1; reach = 1 }
+abbrev pub threeByOne : Size
+threeByOne = record { width = 3; height = 1; reach = 1 }
 
 -- a padded plane has 11 × 9 cells
 abbrev pub buffers : Lent
@@ -41,27 +41,27 @@ byte-0 = record { code = 0; small = lit< tt }
 abbrev pub run : List Call
 run = putIt 1 0 100 byte-255 0 byte-1 ∷ putIt 0 0 40 byte-255 0 byte-0 ∷ showIt pictures ∷ undoIt ∷ showIt pictures ∷ []
 
-abbrev shownOnce : List ℕ → List ℕ → Report
-shownOnce values mattes = record { number = 0; marks = 0; pictures = both values mattes }
+abbrev showReport : List ℕ → List ℕ → Report
+showReport values mattes = record { number = 0; marks = 0; pictures = both values mattes }
 
 -- "46/255 100/28 100/28" and "100/28 100/28 100/28"; a box and a box are 8 marks
 abbrev pub runReports : List Report
 runReports =
     plain 0 8
     ∷ plain 0 8
-    ∷ shownOnce (46 ∷ 100 ∷ 100 ∷ []) (255 ∷ 28 ∷ 28 ∷ [])
+    ∷ showReport (46 ∷ 100 ∷ 100 ∷ []) (255 ∷ 28 ∷ 28 ∷ [])
     ∷ plain 0 8
-    ∷ shownOnce (100 ∷ 100 ∷ 100 ∷ []) (28 ∷ 28 ∷ 28 ∷ [])
+    ∷ showReport (100 ∷ 100 ∷ 100 ∷ []) (28 ∷ 28 ∷ 28 ∷ [])
     ∷ []
 
-pub book-run : bookReports (openBook small 64) run ≡ runReports
+pub book-run : bookReports (openBook threeByOne 64) run ≡ runReports
 unfolding bookReports bookStep bookPut bookPutBy bookUndo bookUndoOf bookShow bookShowBy askCheck placeCheck kernelCheck refuseIf viewsCheck plainValues plainMattes plainSum listTo weight share area tap sum within shownValue shownMatte nearest
 book-run = refl
 
-open-accepted : openCheck small (sizedAs buffers) ≡ Accepted
+open-accepted : openCheck threeByOne (sizedAs buffers) ≡ Accepted
 unfolding openCheck sizesCheck lentCheck refuseIf
 open-accepted = refl
 
 -- so the plate reports it too
-pub plate-run : plateReports (leftBy (openCall small buffers)) run ≡ runReports
-plate-run = demand-3 small buffers run open-accepted .0 ∙ book-run
+pub plate-run : plateReports (leftBy (openCall threeByOne buffers)) run ≡ runReports
+plate-run = demand-3 threeByOne buffers run open-accepted .0 ∙ book-run

@@ -11,6 +11,7 @@ use Rattle.kernels.specs.code.Drawing.{pieceMarks}
 use Rattle.kernels.specs.declared.mark.Drawing.{Drawing}
 use Rattle.kernels.specs.declared.mark.Drawing.the-variants.{Grid, Lines}
 use Rattle.kernels.specs.declared.share.Share.{Share}
+use Rattle.kernels.specs.Share.{shareParts}
 use Rattle.kernels.specs.declared.shape.Shape.{Shape}
 use Rattle.kernels.specs.Shape.{reachOf, topUnder}
 use Rattle.kernels.specs.Mark.{Mark, mark, sign, choose, marksTo, tapMarks}
@@ -92,6 +93,12 @@ pub record Placed (f : Frame) (x y : ℕ) (p : Pixel) : Type 0 where
   pub column-in : x < f .size .width
   pub row-in : y < f .size .height
   pub radius-fits : p .radius ≤ topUnder (p .shape) (f .size .reach)
+
+-- and there are n cells in all planes, and its kernel's share at hand
+pub record PixelReady (f : Frame) (n x y : ℕ) (p : Pixel) (s : Share) : Type 0 where
+  pub placed : Placed f x y p
+  pub planes-are : n ≡ planesInAll * f .padded
+  pub share-is : s ≡ shareParts (p .shape) (p .radius)
 
 -- a kernel's marks, counted from the corner of its drawing
 abbrev pub ownMarks : Shape → ℕ → List Mark

@@ -42,21 +42,23 @@ take-pixel-requires : tie.Need-take-pixel-requires
 take-pixel-requires c κs =
     let old-share = c .before .before .before in
     let shared = old-share .before .before .before .before in
-    let framed = shared .before in (
-      placed framed _ (framed .before .before .pre .old-fits),
-      rw (framed .frame-of .ensures) (framed .before .before .pre .planes-are),
-      old-share .share-in .ensures ∙ rw (shared .shares .ensures) (table-share _ _),
-    )
+    let framed = shared .before in
+    record {
+      placed = placed framed _ (framed .before .before .pre .old-fits);
+      planes-are = rw (framed .frame-of .ensures) (framed .before .before .pre .planes-are);
+      share-is = old-share .share-in .ensures ∙ rw (shared .shares .ensures) (table-share _ _);
+    }
 
 lay-pixel-requires : tie.Need-lay-pixel-requires
 lay-pixel-requires c κs =
     let new-share = c .before .before .before .before .before in
     let shared = new-share .before .before .before .before .before .before in
-    let framed = shared .before in (
-      placed framed _ (framed .before .before .pre .new-fits),
-      rw (framed .frame-of .ensures) (search needs ∙ framed .before .before .pre .planes-are),
-      new-share .share-in2 .ensures ∙ rw (shared .shares .ensures) (table-share _ _),
-    )
+    let framed = shared .before in
+    record {
+      placed = placed framed _ (framed .before .before .pre .new-fits);
+      planes-are = rw (framed .frame-of .ensures) (search needs ∙ framed .before .before .pre .planes-are);
+      share-is = new-share .share-in2 .ensures ∙ rw (shared .shares .ensures) (table-share _ _);
+    }
 
 same-length : tie.Need-same-length
 same-length c = search needs

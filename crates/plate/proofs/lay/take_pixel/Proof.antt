@@ -5,7 +5,7 @@ use Rattle.plate.proofs.lay.take_pixel.Statement.{statement}
 use Rattle.plate.proofs.lay.take_pixel.Tie as tie
 
 corner-of-requires : tie.Need-corner-of-requires
-corner-of-requires c κs = search needs
+corner-of-requires c κs = c .before .pre .placed
 
 worth-of-requires : tie.Need-worth-of-requires
 worth-of-requires c κs = search needs
@@ -17,7 +17,7 @@ lay-kernel-requires : tie.Need-lay-kernel-requires
 lay-kernel-requires c κs =
     let cornered = c .before .before .before in
     let h = cornered .before .before .pre in
-    rw (cornered .corner-of .ensures) (kernel-roomy _ _ _ _ (h .0) _ (h .1))
+    rw (cornered .corner-of .ensures) (kernel-roomy _ _ _ _ (h .placed) _ (h .planes-are))
 
 same-length : tie.Need-same-length
 same-length c = search needs
@@ -33,11 +33,11 @@ returns c =
     rw (
       laid .lay-kernel .ensures,
       cornered .corner-of .ensures,
-      kernel-laid (a .frame) (a .x) (a .y) (a .p) (s .pre .0),
+      kernel-laid (a .frame) (a .x) (a .y) (a .p) (s .pre .placed),
       turned .opposite .ensures,
       worth .worth-of .ensures,
       opposite-laid,
-      pixel-worth (a .frame) (a .x) (a .y) (a .p) _ (s .pre .0) (s .pre .2),
+      pixel-worth (a .frame) (a .x) (a .y) (a .p) _ (s .pre .placed) (s .pre .share-is),
     )
 
 pub take-pixel-spec : {M : Type 1} → statement M

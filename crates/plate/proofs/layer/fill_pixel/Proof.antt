@@ -44,16 +44,17 @@ lay-pixel-requires c κs =
     let shared = c .before in
     let known = shared .before .before .before in
     let start = known .before .before .before .before in
-    let h = start .pre in (
-      record {
+    let h = start .pre in
+    record {
+      placed = record {
         framed = h .0 .framed;
         column-in = h .2 .column-in;
         row-in = h .2 .row-in;
         radius-fits = omega (arith, radius known, h .0 .top-is);
-      },
-      rw (h .0 .framed) (h .0 .planes-are),
-      shared .share-in .ensures ∙ rw (h .1) (table-share _ _),
-    )
+      };
+      planes-are = rw (h .0 .framed) (h .0 .planes-are);
+      share-is = shared .share-in .ensures ∙ rw (h .1) (table-share _ _);
+    }
 
 pack-requires : tie.Need-pack-requires
 pack-requires c κs =
