@@ -1,4 +1,6 @@
 -- What checks in a row say, and what a call may count on when they accept.
+pub mod Rows
+pub mod Conditions
 pub mod Chains
 pub mod Passed
 pub mod Accepted

@@ -1,4 +1,5 @@
--- Demand 3 and demand 2: the plate mirrors the notebook through every list of calls.
+-- Demand 1: every call answers by its rows of the table. Demand 3 and demand 2: the plate mirrors the notebook through every list of calls.
+pub mod Answers
 pub mod PlainSums
 pub mod Logs
 pub mod Mirror

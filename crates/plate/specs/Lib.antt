@@ -7,6 +7,7 @@ pub mod Refusal
 pub mod Change
 pub mod Marks
 pub mod Calls
+pub mod Table
 pub mod Plain
 pub mod Notebook
 pub mod Lists

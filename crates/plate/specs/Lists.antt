@@ -1,4 +1,4 @@
--- Lists of calls, on a plate and on a notebook, and demand 3.
+-- Lists of calls, on a plate and on a notebook, and what demands 3 and 2 say of them.
 use mathlib.Core.Path.{_≡_}
 use mathlib.Core.List.{List, [], _∷_, map}
 use Prim.Native.Nat.{ℕ, _*_, _<_}
@@ -8,9 +8,9 @@ use Rattle.plate.specs.Fixed.{planesInAll}
 use Rattle.plate.specs.Layout.{Size, padded}
 use Rattle.plate.specs.Word.{wordOf}
 use Rattle.plate.specs.Lent.{State, Lent, sizedAs, ask, inputs, Views}
-use Rattle.plate.specs.Refusal.{Outcome, Accepted, Refused, outcomeNumber, openCheck}
-use Rattle.plate.specs.Calls.{Left, Shown, openCall, putCall, undoCall, fillCall, showCall}
-use Rattle.plate.specs.Plain.{gridCell}
+use Rattle.plate.specs.Refusal.{Outcome, Accepted, Refused, outcomeNumber, openCheck, viewsCheck}
+use Rattle.plate.specs.Calls.{Left, Shown, shown, answerOf, zeros, openCall, putCall, undoCall, fillCall, showCall}
+use Rattle.plate.specs.Plain.{plainValues, plainMattes, gridCell}
 use Rattle.plate.specs.Notebook.{Book, openBook, both, Report, plain, Turn, bookPut, bookUndo, bookFill, bookShow, logOf}
 
 -- "Opacity and radius come as bytes."
@@ -103,3 +103,14 @@ Demand3 =
     let p = leftBy (openCall z l) in
     let b = openBook z (length (l .log)) in
     (plateReports p calls ≡ bookReports b calls) × Holds (plateAfter p calls) (bookAfter b calls)
+
+-- DEMAND 2: on a plate changed only by its own calls, a show that is lent right lengths answers 0, writes the plain pictures of
+-- the notebook's grid, and leaves scratch all zero
+abbrev pub Demand2 : Type 0
+Demand2 =
+    (z : Size) (l : Lent) (calls : List Call) (v : Views) → openCheck z (sizedAs l) ≡ Accepted
+    → viewsCheck z (length (v .scratch)) (length (v .values)) (length (v .mattes)) ≡ Accepted →
+    let p = plateAfter (leftBy (openCall z l)) calls in
+    let grid = bookAfter (openBook z (length (l .log))) calls .grid in
+    showCall (p .state) (p .kept .planes) v
+    ≡ shown (answerOf Accepted 0 (p .state)) (zeros (length (v .scratch))) (plainValues z grid) (plainMattes z grid)

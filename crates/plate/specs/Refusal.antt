@@ -78,10 +78,15 @@ placeCheck z a next = refuseIf (leb (z .width) (a .x)) Place (refuseIf (leb (z .
 abbrev pub valueCheck : ℕ → Outcome → Outcome
 valueCheck v next = refuseIf (ltb valueTop v) Value next
 
--- 6: "shape above 5", and 7: "r above top under R"
-unfoldable pub kernelCheck : ℕ → ShapeRead → ℕ → Outcome → Outcome
-kernelCheck R Unknown r next = Refused Shape
-kernelCheck R (Known s) r next = refuseIf (ltb (topUnder s R) r) Radius next
+-- 6: "shape above 5"
+unfoldable pub shapeCheck : ShapeRead → Outcome → Outcome
+shapeCheck Unknown next = Refused Shape
+shapeCheck (Known s) next = next
+
+-- 7: "r above top under R", of a shape that is read
+unfoldable pub radiusCheck : ℕ → ShapeRead → ℕ → Outcome → Outcome
+radiusCheck R Unknown r next = next
+radiusCheck R (Known s) r next = refuseIf (ltb (topUnder s R) r) Radius next
 
 -- 8: "put: count equals log length"
 abbrev pub fullCheck : ℕ → ℕ → Outcome → Outcome
@@ -100,10 +105,6 @@ anyOf test (n ∷ ns) = pick (test n) true (anyOf test ns)
 abbrev pub anyAbove : ℕ → List ℕ → Bool
 anyAbove b ns = anyOf (ltb b) ns
 
-unfoldable pub shapeCheck : ShapeRead → Outcome → Outcome
-shapeCheck Unknown next = Refused Shape
-shapeCheck (Known s) next = next
-
 -- 11: "D, f, S or p outside"
 abbrev pub lensCheck : LensOf → Outcome → Outcome
 lensCheck l next = refuseIf (not (lawfulLens l)) Lens next
@@ -117,7 +118,9 @@ depthsCheck depths next = refuseIf (anyAbove depthTop depths) Depth next
 unfoldable pub askCheck : Size → ℕ → ℕ → Ask → Outcome
 askCheck z n room a =
     placeCheck z a
-    (valueCheck (a .value) (kernelCheck (z .reach) (shapeOf (a .shape)) (a .radius) (fullCheck n room Accepted)))
+    (valueCheck (a .value)
+    (shapeCheck (shapeOf (a .shape))
+    (radiusCheck (z .reach) (shapeOf (a .shape)) (a .radius) (fullCheck n room Accepted))))
 
 -- 2 for fill's inputs, "W × H each"
 unfoldable pub inputsCheck : Size → ℕ → ℕ → ℕ → Outcome → Outcome

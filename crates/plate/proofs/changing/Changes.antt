@@ -89,11 +89,11 @@ module _ (s : State) (l : Lent) (c : Change) (plate : PlateAccepted s (sizedAs l
         last-in = omega (arith, plate .count-in);
       })
 
-  undo-logged : (r : EntryRead) → readEntry (s .size) (getD (l .log) (s .count - 1) 0) ≡ r
+  undo-logged : (w : ℕ) (r : EntryRead) → readEntry (s .size) w ≡ r
       → undoEntry r (s .size) (l .pixels) ≡ ToChange c → UndoReady s c l
   unfolding undoEntry
-  undo-logged Unreadable w q = no-change _ c q
-  undo-logged (Logged e) w q = let h = entry-read (s .size) _ e w in undo-whole e (h .0) (h .1) _ refl q
+  undo-logged w Unreadable is q = no-change _ c q
+  undo-logged w (Logged e) is q = let h = entry-read (s .size) w e is in undo-whole e (h .0) (h .1) _ refl q
 
 undo-ready-by : (s : State) (l : Lent) (c : Change) (o : Outcome) → undoCheck s (sizedAs l) ≡ o → undoReadBy o s (l .pixels) (l .log) ≡ ToChange c
     → UndoReady s c l
@@ -101,7 +101,7 @@ unfolding undoReadBy undoCheck
 undo-ready-by s l c (Refused f) k q = no-change f c q
 undo-ready-by s l c Accepted k q =
     let plate = plate-accepted s (sizedAs l) _ k in
-    undo-logged s l c (plate .0) (some-accepted s (plate .1)) _ refl q
+    undo-logged s l c (plate .0) (some-accepted s (plate .1)) _ _ refl q
 
 pub undo-ready : (s : State) (l : Lent) (c : Change) → undoRead s (sizedAs l) (l .pixels) (l .log) ≡ ToChange c → UndoReady s c l
 unfolding undoRead

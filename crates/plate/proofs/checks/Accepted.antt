@@ -1,27 +1,24 @@
 -- What a call may count on when its check accepts.
 use mathlib.Core.Path.{_≡_}
-use mathlib.Core.Bool.{not}
-use Prim.Native.Nat.{ℕ, _*_, _-_, _≤_, _<_}
-use native.Mathlib.Omega.{arith}
-use lib.Dec.{leb, ltb, eqb}
-use borrow.Author.Tests.{ltb-false, leb-false, eqb-true, eqb-false, not-false}
+use Prim.Native.Nat.{ℕ, _*_, _≤_, _<_}
 use Rattle.kernels.specs.declared.shape.ShapeRead.the-variants.{Known}
 use Rattle.kernels.specs.Shape.{shapeOf, topUnder}
+use Rattle.kernels.specs.declared.lens.Lens.{Lens as LensOf}
+use Rattle.kernels.specs.Lens.{lawfulLens}
+use mathlib.Core.Bool.{true}
+use lib.ListN.{getD}
 use Rattle.plate.specs.Layout.{Size, padded, places}
-use Rattle.plate.specs.Lent.{State, Sized, Ask}
-use Rattle.plate.specs.Refusal.{Outcome, Accepted, sizesCheck, lengthCheck, lentCheck, placeCheck, askCheck, inputsCheck, viewsCheck, showCheck, plateCheck, emptyCheck}
+use Rattle.plate.specs.Lent.{State, Sized, Ask, Inputs}
+use Rattle.plate.specs.Refusal.{Outcome, Accepted, Value, Depth, sizesCheck, lentCheck, placeCheck, askCheck, inputsCheck, layerCheck, viewsCheck, showCheck, plateCheck, emptyCheck}
 use Rattle.plate.specs.Change.{askedPlace, knownShape, askedPixel}
-use Rattle.plate.proofs.checks.Passed.{passed, sizes-passed, lent-passed, kernel-passed}
 use Rattle.plate.specs.code.Bounds.{LawfulSize, LentFor, Fits}
-use Rattle.plate.proofs.numbers.Extents.{place-within}
 use Rattle.plate.specs.Fixed.{planesInAll, scratchPlanes}
-use Rattle.kernels.specs.Fixed.{valueTop}
+use Rattle.kernels.specs.Fixed.{valueTop, depthTop}
 use Rattle.plate.specs.code.Filling.{fillLengths}
-
-length-passed : (n want : ℕ) (next : Outcome) → lengthCheck n want next ≡ Accepted → (n ≡ want) × (next ≡ Accepted)
-length-passed n want next e =
-    let q = passed (not (eqb n want)) _ next e in
-    (eqb-true n want (not-false _ (q .0)), q .1)
+use Rattle.plate.proofs.numbers.Extents.{place-within}
+use Rattle.plate.proofs.checks.Rows.{check-passed}
+use Rattle.plate.proofs.checks.Conditions.{inputs-checks, views-checks, count-checks, place-checks, value-checks, shape-checks, radius-checks, radius-in, full-checks, empty-checks, above-checks, lens-checks}
+use Rattle.plate.proofs.checks.Passed.{sizes-passed, lent-passed}
 
 -- the plate's checks, whatever comes after them
 lent-first : (z : Size) (n : Sized) (next : Outcome) → sizesCheck z (lentCheck z n next) ≡ Accepted
@@ -42,8 +39,8 @@ pub plate-accepted : (s : State) (n : Sized) (next : Outcome) → plateCheck s n
 unfolding plateCheck
 plate-accepted s n next e =
     let p = lent-first (s .size) n _ e in
-    let q = passed (ltb (n .log) (s .count)) _ _ (p .2) in
-    (record { lawful = p .0; lent = p .1; count-in = ltb-false _ _ (q .0) }, q .1)
+    let q = check-passed (count-checks (s .count) (n .log)) _ (p .2) in
+    (record { lawful = p .0; lent = p .1; count-in = q .0 }, q .1)
 
 -- 4 to 8 of a put
 pub record AskAccepted (z : Size) (count room : ℕ) (a : Ask) : Type 0 where
@@ -56,23 +53,22 @@ pub record AskAccepted (z : Size) (count room : ℕ) (a : Ask) : Type 0 where
   pub not-full : count ≡ room → ⊥
 
 pub ask-accepted : (z : Size) (count room : ℕ) (a : Ask) → askCheck z count room a ≡ Accepted → AskAccepted z count room a
-unfolding askCheck placeCheck
+unfolding askCheck
 ask-accepted z count room a e =
-    let q1 = passed (leb (z .width) (a .x)) _ _ e in
-    let q2 = passed (leb (z .height) (a .y)) _ _ (q1 .1) in
-    let q3 = passed (ltb valueTop (a .value)) _ _ (q2 .1) in
-    let q4 = kernel-passed (z .reach) (shapeOf (a .shape)) (a .radius) _ (q3 .1) in
-    let q5 = passed (eqb count room) _ _ (q4 .2) in
-    let x : a .x < z .width = leb-false _ _ (q1 .0) in
-    let y : a .y < z .height = leb-false _ _ (q2 .0) in
+    let shape = shapeOf (a .shape) in
+    let q1 = check-passed (place-checks z a) _ e in
+    let q2 = check-passed (value-checks (a .value)) _ (q1 .1) in
+    let q3 = check-passed (shape-checks (a .shape)) _ (q2 .1) in
+    let q4 = check-passed (radius-checks (z .reach) shape (a .radius)) _ (q3 .1) in
+    let q5 = check-passed (full-checks count room) _ (q4 .1) in
     record {
-      place-x = x;
-      place-y = y;
-      place-in = place-within (a .x) (a .y) (z .width) (z .height) x y;
-      value-in = ltb-false _ _ (q3 .0);
-      shape-known = q4 .0;
-      radius-in = q4 .1;
-      not-full = eqb-false _ _ (q5 .0);
+      place-x = q1 .0 .0;
+      place-y = q1 .0 .1;
+      place-in = place-within (a .x) (a .y) (z .width) (z .height) (q1 .0 .0) (q1 .0 .1);
+      value-in = q2 .0;
+      shape-known = q3 .0;
+      radius-in = radius-in (z .reach) shape (a .radius) (q3 .0) (q4 .0);
+      not-full = q5 .0;
     }
 
 -- the pixel that an accepted put asks for is lawful
@@ -83,7 +79,7 @@ asked-fits z count room a h byte =
 
 -- 9 of an undo
 pub some-accepted : (s : State) → emptyCheck (s .count) Accepted ≡ Accepted → 1 ≤ s .count
-some-accepted s e = omega (arith, eqb-false (s .count) 0 (passed (eqb (s .count) 0) _ _ e .0))
+some-accepted s e = check-passed (empty-checks (s .count)) Accepted e .0
 
 -- 1 to 3 of a fill
 pub record FillAccepted (s : State) (n : Sized) (values opacities depths : ℕ) : Type 0 where
@@ -96,19 +92,32 @@ pub record FillAccepted (s : State) (n : Sized) (values opacities depths : ℕ) 
 pub fill-accepted : (s : State) (n : Sized) (values opacities depths : ℕ)
     → fillLengths s n values opacities depths ≡ Accepted
     → FillAccepted s n values opacities depths
-unfolding fillLengths inputsCheck
+unfolding fillLengths
 fill-accepted s n values opacities depths e =
     let p = lent-first (s .size) n _ e in
-    let q1 = length-passed values (places (s .size)) _ (p .2) in
-    let q2 = length-passed opacities (places (s .size)) _ (q1 .1) in
-    let q3 = length-passed depths (places (s .size)) _ (q2 .1) in
+    let q = check-passed (inputs-checks (s .size) values opacities depths) _ (p .2) .0 in
     record {
       lawful = p .0;
       lent = p .1;
-      values-are = q1 .0;
-      opacities-are = q2 .0;
-      depths-are = q3 .0;
+      values-are = q .0;
+      opacities-are = q .1 .0;
+      depths-are = q .1 .1;
     }
+
+-- 5, 6, 11 and 12 of a fill
+pub record LayerAccepted (o : LensOf) (f : Inputs) : Type 0 where
+  pub values-in : (i : ℕ) → getD (f .values) i 0 ≤ valueTop
+  pub lens-lawful : lawfulLens o ≡ true
+  pub depths-in : (i : ℕ) → getD (f .depths) i 0 ≤ depthTop
+
+pub layer-accepted : (o : LensOf) (k : ℕ) (f : Inputs) → layerCheck o k f ≡ Accepted → LayerAccepted o f
+unfolding layerCheck
+layer-accepted o k f e =
+    let q1 = check-passed (above-checks Value valueTop (f .values)) _ e in
+    let q2 = check-passed (shape-checks k) _ (q1 .1) in
+    let q3 = check-passed (lens-checks o) _ (q2 .1) in
+    let q4 = check-passed (above-checks Depth depthTop (f .depths)) _ (q3 .1) in
+    record { values-in = q1 .0; lens-lawful = q3 .0; depths-in = q4 .0 }
 
 pub record ShowAccepted (s : State) (planes scratch values mattes : ℕ) : Type 0 where
   pub lawful : LawfulSize (s .size)
@@ -123,14 +132,11 @@ unfolding showCheck viewsCheck
 show-accepted s planes scratch values mattes e =
     let z = s .size in
     let p = sizes-passed z _ e in
-    let q1 = length-passed planes (planesInAll * padded z) _ (p .1) in
-    let q2 = length-passed scratch (scratchPlanes * padded z) _ (q1 .1) in
-    let q3 = length-passed values (places z) _ (q2 .1) in
-    let q4 = length-passed mattes (places z) _ (q3 .1) in
+    let q = check-passed (views-checks z planes scratch values mattes) Accepted (p .1) .0 in
     record {
       lawful = p .0;
-      planes-are = q1 .0;
-      scratch-are = q2 .0;
-      values-are = q3 .0;
-      mattes-are = q4 .0;
+      planes-are = q .0;
+      scratch-are = q .1 .0;
+      values-are = q .1 .1 .0;
+      mattes-are = q .1 .1 .1;
     }

@@ -12,12 +12,10 @@ use Rattle.kernels.specs.Choice.{pick}
 use Rattle.kernels.proofs.numbers.Choices.{by-lt}
 use Rattle.plate.specs.Refusal.{anyOf, anyAbove}
 use Rattle.plate.specs.code.Filling.{isBetween, numberTop}
+use Rattle.plate.proofs.checks.Conditions.{true-not}
 use Rattle.plate.proofs.numbers.Extents.{row-in}
 
 -- TESTS
-pub true-not : {P : Type 0} → true ≡ false → P
-true-not e = let z : _≡_ {A = ℕ} 0 1 = cc in absurd (omega arith)
-
 neither : (t u : Bool) → pick t true u ≡ false → (t ≡ false) × (u ≡ false)
 neither true u e = true-not e
 neither false u e = (refl, e)
@@ -47,13 +45,6 @@ unfolding anyOf
 none-of t [] e i l = absurd (omega arith)
 none-of t (n ∷ ns) e zero l = neither (t n) (anyOf t ns) e .0
 none-of t (n ∷ ns) e (suc i) l = none-of t ns (neither (t n) (anyOf t ns) e .1) i (omega arith)
-
--- what no number of a list is above, each is at most
-pub none-above : (b : ℕ) (ns : List ℕ) → anyAbove b ns ≡ false → (i : ℕ) → getD ns i 0 ≤ b
-unfolding anyOf
-none-above b [] e i = omega arith
-none-above b (n ∷ ns) e zero = ltb-false b n (neither (ltb b n) (anyAbove b ns) e .0)
-none-above b (n ∷ ns) e (suc i) = none-above b ns (neither (ltb b n) (anyAbove b ns) e .1) i
 
 -- SCANS
 -- after the last row

@@ -13,8 +13,8 @@ use Rattle.plate.specs.Lent.{stateOf, Lent, sizedAs, Views, ask, inputs}
 use Rattle.plate.specs.Calls.{answerOf, zeros, listTo, sumAt, shown, showBy, showCall, openCall}
 use Rattle.plate.specs.Plain.{matteOf, lightOf, plainSum, plainValues, plainMattes}
 use Rattle.plate.specs.Notebook.{Book, bookOf, openBook, both, Report, bookShowBy, bookShow}
-use Rattle.plate.specs.Lists.{Byte, codes, Call, Plate, leftBy, putIt, undoIt, fillIt, showIt, seenBy, shownTo, plateStep, bookStep, plateReports, plateAfter, bookReports, bookAfter, Holds, Demand3}
-use Rattle.plate.proofs.checks.Passed.{passes, length-pass, sizes-pass}
+use Rattle.plate.specs.Lists.{Byte, codes, Call, Plate, leftBy, putIt, undoIt, fillIt, showIt, seenBy, shownTo, plateStep, bookStep, plateReports, plateAfter, bookReports, bookAfter, Holds, Demand3, Demand2}
+use Rattle.plate.proofs.checks.Passed.{length-pass, sizes-pass}
 use Rattle.plate.proofs.demands.PlainSums.{show-fact}
 use Rattle.plate.proofs.numbers.Lists.{listTo-ext}
 use Rattle.plate.proofs.demands.Logs.{log-from-bottom}
@@ -58,7 +58,7 @@ module _ (z : Size) (room : ℕ) (planes : List ℕ) (grid : List Pixel) (pile :
       ≡ viewsCheck z (length (v .scratch)) (length (v .values)) (length (v .mattes))
   unfolding showCheck
   show-checked v =
-      sizes-pass z _ (kept .lawful) ∙ passes _ _ _ (length-pass (length planes) (planesInAll * padded z) (kept .cells-count))
+      sizes-pass z _ (kept .lawful) ∙ length-pass (length planes) (planesInAll * padded z) _ (kept .cells-count)
 
   pub show-agrees : (v : Views)
       → Agree z room
@@ -146,13 +146,7 @@ demand-3 z l calls e =
       rw (f .same-plate, f .same-book) (kept-holds z (length (l .log)) (f .planes) (f .grid) (f .pile) (f .kept)),
     )
 
--- DEMAND 2: on a plate changed only by its own calls, both pictures of a show that is lent right lengths equal plain spreading
-pub demand-2 : (z : Size) (l : Lent) (calls : List Call) (v : Views) → openCheck z (sizedAs l) ≡ Accepted
-    → viewsCheck z (length (v .scratch)) (length (v .values)) (length (v .mattes)) ≡ Accepted →
-    let p = plateAfter (leftBy (openCall z l)) calls in
-    let grid = bookAfter (openBook z (length (l .log))) calls .grid in
-    showCall (p .state) (p .kept .planes) v
-    ≡ shown (answerOf Accepted 0 (p .state)) (zeros (length (v .scratch))) (plainValues z grid) (plainMattes z grid)
+pub demand-2 : Demand2
 demand-2 z l calls v e g =
     let f = opened z l calls e in
     rw (f .same-plate, f .same-book)

@@ -13,7 +13,7 @@ use Rattle.kernels.proofs.numbers.Choices.{same-mul}
 use Rattle.kernels.proofs.sums.FiniteSums.{sum-ext, sum-ext-lt, sum-zero}
 use Rattle.plate.specs.Layout.{Size, cell, places, columnOf, rowOf}
 use Rattle.plate.specs.Word.{Pixel, empty, wordOf, Entry}
-use Rattle.plate.specs.Refusal.{Outcome, Accepted, Refused, anyAbove, inputsCheck, layerCheck, openCheck, fillCheck, fillFirst}
+use Rattle.plate.specs.Refusal.{Outcome, Accepted, Refused, inputsCheck, layerCheck, openCheck, fillCheck, fillFirst}
 use Rattle.plate.specs.Lent.{stateOf, Lent, lent, sizedAs, Inputs}
 use Rattle.plate.specs.Marks.{inBoth, pixelMarks, layGrid, total}
 use Rattle.plate.specs.Calls.{zeros, listTo, filled, fillBy, fillCall, openBy, openCall}
@@ -21,14 +21,16 @@ use Rattle.plate.specs.Change.{knownShape}
 use Rattle.plate.specs.Plain.{gridCell}
 use Rattle.plate.specs.Notebook.{bookOf, bookFillBy, bookFill}
 use Rattle.plate.specs.Lists.{leftBy, stepOf}
-use Rattle.plate.proofs.checks.Passed.{passed, sizes-passed, sizes-pass, lent-passed, lent-pass}
+use Rattle.plate.proofs.checks.Rows.{check-passed}
+use Rattle.plate.proofs.checks.Conditions.{inputs-checks}
+use Rattle.plate.proofs.checks.Accepted.{layer-accepted}
+use Rattle.plate.proofs.checks.Passed.{sizes-passed, sizes-pass, lent-passed, lent-pass}
 use Rattle.plate.specs.code.Bounds.{Fits}
 use Rattle.plate.proofs.laying.LaidCells.{length-lay-grid, lay-grid-cell}
 use Rattle.plate.proofs.numbers.Lists.{getD-same, getD-zeros, length-listTo, getD-listTo, listTo-each, empty-words}
 use Rattle.plate.proofs.demands.Logs.{logBy, log-length}
-use Rattle.plate.proofs.checks.Scans.{none-above}
 use Rattle.plate.proofs.demands.Mirror.{PileFits, Mirrored, heldBy, mirror, Agree, lent-kept, count-kept, agree-refused}
-use Rattle.kernels.specs.Fixed.{valueTop, planesEach}
+use Rattle.kernels.specs.Fixed.{planesEach}
 
 pub empty-fits : (R : ℕ) → Fits R empty
 empty-fits R = record { value-fits = lit≤ tt; opacity-fits = lit< tt; radius-fits = omega arith }
@@ -38,21 +40,16 @@ empty-fits R = record { value-fits = lit≤ tt; opacity-fits = lit< tt; radius-f
 filled-fits : (z : Size) (o : LensOf) (n : ℕ) (f : Inputs) → layerCheck o n f ≡ Accepted
     → ((i : ℕ) → getD (f .opacities) i 0 < 256)
     → (i : ℕ) → Fits (z .reach) (filled z o (knownShape (shapeOf n)) f i)
-unfolding layerCheck filled
+unfolding filled
 filled-fits z o n f e bytes i =
     record {
-      value-fits = none-above valueTop (f .values) (passed (anyAbove valueTop (f .values)) _ _ e .0) i;
+      value-fits = layer-accepted o n f e .values-in i;
       opacity-fits = bytes i;
       radius-fits = least (topUnder (knownShape (shapeOf n)) (z .reach)) _;
     }
   where
     least : (a b : ℕ) → min a b ≤ a
     least a b = omega arith
-
-inputs-passed : (z : Size) (values opacities depths : ℕ) (next : Outcome)
-    → inputsCheck z values opacities depths next ≡ Accepted → next ≡ Accepted
-unfolding inputsCheck
-inputs-passed z values opacities depths next e = passed _ _ _ (passed _ _ _ (passed _ _ _ e .1) .1) .1
 
 -- a grid laid on zeros
 laid-cell : (z : Size) (g : ℕ → Pixel) (m k : ℕ) → k < m
@@ -103,7 +100,7 @@ module _ (z : Size) (room : ℕ) (planes : List ℕ) (grid : List Pixel) (pile :
       → Agree z room
       (stepOf (fillBy c (stateOf z (length pile)) o n f (heldBy room planes grid pile)))
       (bookFillBy c (bookOf z room grid pile) o n f)
-  fill-by o n f bytes Accepted e = fill-done o n f bytes (inputs-passed z _ _ _ (layerCheck o n f) e)
+  fill-by o n f bytes Accepted e = fill-done o n f bytes (check-passed (inputs-checks z _ _ _) (layerCheck o n f) e .1)
   fill-by o n f bytes (Refused g) e = unfold fillBy bookFillBy in (agree-refused z room planes grid pile kept g)
 
   fill-checks : (o : LensOf) (n : ℕ) (f : Inputs)

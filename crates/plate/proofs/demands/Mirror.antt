@@ -3,10 +3,8 @@ use mathlib.Core.Path.{_≡_, refl, ap, sym, _∙_}
 use mathlib.Core.List.{List, [], _∷_, map}
 use Prim.Native.Nat.{ℕ, zero, suc, _+_, _*_, _-_, _^_, _≤_, _<_}
 use native.Mathlib.Omega.{arith}
-use lib.Dec.{eqb}
 use lib.ListN.{getD, set, length, length-set, length-map}
 use lib.Seq.{getD-set-same, getD-set-other}
-use borrow.Author.Tests.{le-ltb, ne-eqb}
 use Rattle.kernels.specs.Sum.{sum}
 use Rattle.kernels.proofs.numbers.Choices.{by-lt}
 use Rattle.kernels.proofs.sums.FiniteSums.{sum-ext-lt}
@@ -20,7 +18,9 @@ use Rattle.plate.specs.Change.{askedPlace, askedPixel, putOver, undoOver
 use Rattle.plate.specs.Plain.{pixelAt, gridCell}
 use Rattle.plate.specs.Notebook.{bookOf, Report, Turn, turn, turnedDown, bookPutBy, bookPut, bookUndoOf, bookUndo}
 use Rattle.plate.specs.Lists.{Plate, Step, stepOf}
-use Rattle.plate.proofs.checks.Passed.{passes, sizes-pass, lent-pass}
+use Rattle.plate.proofs.checks.Rows.{check-passes}
+use Rattle.plate.proofs.checks.Conditions.{empty-checks}
+use Rattle.plate.proofs.checks.Passed.{sizes-pass, lent-pass, count-pass}
 use Rattle.plate.specs.code.Bounds.{LawfulSize, Fits, LentFor}
 use Rattle.plate.proofs.words.Words.{read-back, entry-back}
 use Rattle.plate.proofs.laying.LaidCells.{length-exchanged, exchanged-cell}
@@ -126,7 +126,7 @@ module _ (z : Size) (room : ℕ) (planes : List ℕ) (grid : List Pixel) (pile :
 
   pub count-kept : (next : Outcome) → countCheck (length pile) (length (logBy room pile)) next ≡ next
   count-kept next =
-      passes _ _ next (le-ltb (length (logBy room pile)) (length pile) (omega (arith, log-length room pile, kept .height-fits)))
+      count-pass (length pile) (length (logBy room pile)) next (omega (arith, log-length room pile, kept .height-fits))
 
   checks-kept : (next : Outcome)
       → plateCheck (stateOf z (length pile)) (sizedAs (heldBy room planes grid pile)) next ≡ next
@@ -234,7 +234,7 @@ undo-agrees-by : (z : Size) (room : ℕ) (planes : List ℕ) (grid : List Pixel)
 undo-agrees-by z room planes grid [] kept =
     unfold undoBy undoReadBy bookUndoOf refuseIf in (agree-refused z room planes grid [] kept LogEmpty)
 undo-agrees-by z room planes grid (e ∷ pile) kept =
-    rw (passes (eqb (suc (length pile)) 0) LogEmpty Accepted (ne-eqb (suc (length pile)) 0 (omega arith)))
+    rw (check-passes (empty-checks (suc (length pile))) Accepted (omega arith))
     (undo-done z room planes grid e pile kept)
 
 pub undo-agrees : (z : Size) (room : ℕ) (planes : List ℕ) (grid : List Pixel) (pile : List Entry) → Mirrored z room planes grid pile

@@ -9,7 +9,7 @@ use Rattle.kernels.specs.Sum.{sum}
 use Rattle.kernels.specs.Tap.{tap, area, share, weight}
 use Rattle.kernels.specs.Rounding.{nearest, shownValue, shownMatte}
 use Rattle.plate.specs.Layout.{Size}
-use Rattle.plate.specs.Refusal.{Accepted, refuseIf, sizesCheck, lentCheck, placeCheck, kernelCheck, askCheck, viewsCheck, openCheck}
+use Rattle.plate.specs.Refusal.{Accepted, refuseIf, sizesCheck, lentCheck, placeCheck, shapeCheck, radiusCheck, askCheck, viewsCheck, openCheck}
 use Rattle.plate.specs.Lent.{Lent, lent, sizedAs, Views, views}
 use Rattle.plate.specs.Calls.{zeros, listTo, openCall}
 use Rattle.plate.specs.Plain.{plainSum, plainValues, plainMattes}
@@ -55,7 +55,7 @@ runReports =
     ∷ []
 
 pub book-run : bookReports (openBook threeByOne 64) run ≡ runReports
-unfolding bookReports bookStep bookPut bookPutBy bookUndo bookUndoOf bookShow bookShowBy askCheck placeCheck kernelCheck refuseIf viewsCheck plainValues plainMattes plainSum listTo weight share area tap sum within shownValue shownMatte nearest
+unfolding bookReports bookStep bookPut bookPutBy bookUndo bookUndoOf bookShow bookShowBy askCheck placeCheck shapeCheck radiusCheck refuseIf viewsCheck plainValues plainMattes plainSum listTo weight share area tap sum within shownValue shownMatte nearest
 book-run = refl
 
 open-accepted : openCheck threeByOne (sizedAs buffers) ≡ Accepted

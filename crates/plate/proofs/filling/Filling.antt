@@ -1,6 +1,6 @@
 -- A plate filled pixel by pixel, and what a fill's checks tell.
 use mathlib.Core.Path.{_≡_, refl, ap, sym, _∙_}
-use mathlib.Core.Bool.{true, false, not}
+use mathlib.Core.Bool.{true}
 use mathlib.Core.List.{List, map}
 use Prim.Native.Nat.{ℕ, _+_, _≤_, _<_, min}
 use native.Mathlib.Omega.{arith}
@@ -8,9 +8,6 @@ use native.Mathlib.Numerals.{add-one}
 use lib.ListN.{getD, set, length, length-map}
 use lib.Seq.{getD-set-same, getD-set-other, ext-getD}
 use borrow.Author.Count.{below-more}
-use borrow.Author.Tests.{not-false}
-use Rattle.kernels.specs.declared.shape.ShapeRead.{ShapeRead}
-use Rattle.kernels.specs.declared.shape.ShapeRead.the-variants.{Known, Unknown}
 use Rattle.kernels.specs.Shape.{shapeOf, topUnder}
 use Rattle.kernels.specs.declared.lens.Lens.{Lens}
 use Rattle.kernels.specs.declared.lens.Radius.{Radius}
@@ -19,17 +16,16 @@ use Rattle.kernels.specs.Lens.{lawfulLens, blur, radiusFrom}
 use Rattle.kernels.proofs.lenses.ThinLens.{in-pixels}
 use Rattle.plate.specs.Word.{empty, wordOf}
 use Rattle.plate.specs.Lent.{State, stateOf, Lent, sizedAs, Inputs, Sized}
-use Rattle.plate.specs.Refusal.{Refusal, Outcome, Accepted, Refused, anyAbove, shapeCheck, layerCheck, fillCheck}
+use Rattle.plate.specs.Refusal.{Refusal, Outcome, Accepted, Refused, layerCheck, fillCheck}
 use Rattle.plate.specs.Change.{knownShape}
 use Rattle.plate.specs.Marks.{pixelMarks, layAll, layGrid}
 use Rattle.plate.specs.Calls.{left, answerOf, refused, listTo, filled, fillBy, fillCall}
 use Rattle.plate.specs.code.Filling.{Layer, ToFill, NoFill, readBy, layerRead, layerSize, pixelOf, pixelFrom, Ready, FilledTo, Refilled, fillLengths, inputsRead, layerOf}
-use Rattle.plate.proofs.checks.Passed.{passed}
-use Rattle.plate.proofs.checks.Accepted.{fill-accepted}
-use Rattle.plate.proofs.checks.Chains.{fill-before, and-then}
+use Rattle.plate.proofs.checks.Rows.{and-then}
+use Rattle.plate.proofs.checks.Accepted.{fill-accepted, layer-accepted}
+use Rattle.plate.proofs.checks.Chains.{fill-before}
 use Rattle.plate.proofs.numbers.Lists.{length-listTo, getD-listTo, word-at}
-use Rattle.plate.proofs.checks.Scans.{none-above}
-use Rattle.kernels.specs.Fixed.{valueTop, depthTop}
+use Rattle.kernels.specs.Fixed.{depthTop}
 
 -- ONE PIXEL
 -- the radius that a lawful lens gives a lawful depth
@@ -89,25 +85,6 @@ no-fill : (o : Outcome) (j : Layer) (f : Refusal) → NoFill f ≡ readBy o j �
 no-fill Accepted j f e = let z : _≡_ {A = ℕ} 0 1 = cc in absurd (omega arith)
 no-fill (Refused g) j f e = let same : f ≡ g = cc in ap Refused (sym same)
 
-shape-passed : (s : ShapeRead) (next : Outcome) → shapeCheck s next ≡ Accepted → next ≡ Accepted
-unfolding shapeCheck
-shape-passed Unknown next e = let z : _≡_ {A = ℕ} 0 1 = cc in absurd (omega arith)
-shape-passed (Known s) next e = e
-
--- 5, 6, 11 and 12
-record LayerAccepted (o : Lens) (f : Inputs) : Type 0 where
-  values-in : anyAbove valueTop (f .values) ≡ false
-  lens-lawful : lawfulLens o ≡ true
-  depths-in : anyAbove depthTop (f .depths) ≡ false
-
-layer-accepted : (o : Lens) (k : ℕ) (f : Inputs) → layerCheck o k f ≡ Accepted → LayerAccepted o f
-unfolding layerCheck
-layer-accepted o k f e =
-    let q1 = passed (anyAbove valueTop (f .values)) _ _ e in
-    let q2 = passed (not (lawfulLens o)) _ _ (shape-passed (shapeOf k) _ (q1 .1)) in
-    let q3 = passed (anyAbove depthTop (f .depths)) _ _ (q2 .1) in
-    record { values-in = q1 .0; lens-lawful = not-false _ (q2 .0); depths-in = q3 .0 }
-
 -- 1 to 3 of a fill, of what its inputs are
 abbrev lengthsOf : State → Inputs → Sized → Outcome
 lengthsOf s f n = fillLengths s n (length (f .values)) (length (f .opacities)) (length (f .depths))
@@ -155,8 +132,8 @@ module _ (s : State) (o : Lens) (k : ℕ) (f : Inputs) (l : Lent) where
           values-are = h .values-are;
           opacities-are = h .opacities-are;
           depths-are = h .depths-are;
-          values-in = none-above valueTop (f .values) (p .values-in);
-          depths-in = none-above depthTop (f .depths) (p .depths-in);
+          values-in = p .values-in;
+          depths-in = p .depths-in;
         })
 
     pub layer-filled : (planes pixels log : List ℕ) → Refilled j f (length (l .planes)) (length (l .log)) planes pixels log

@@ -1,11 +1,8 @@
 -- A show that is accepted is of a plate that was lent its cells, so there is room for its text.
 use mathlib.Core.Path.{_≡_, refl, ap, sym, _∙_}
-use mathlib.Core.Bool.{not}
 use mathlib.Core.List.{List}
 use Prim.Native.Nat.{ℕ, _+_, _*_, _≤_}
 use native.Mathlib.Omega.{arith}
-use borrow.Author.Tests.{eqb-true, not-false}
-use lib.Dec.{eqb}
 use lib.ListN.{length}
 use Rattle.kernels.proofs.numbers.Choices.{by-lt}
 use Rattle.kernels.proofs.numbers.Products.{product-le}
@@ -18,7 +15,7 @@ use Rattle.plate.specs.declared.state.Outcome.the-variants.{Accepted, Refused}
 use Rattle.plate.specs.Refusal.{outcomeNumber, showCheck}
 use Rattle.plate.specs.Lent.{Views}
 use Rattle.plate.specs.Calls.{Shown, shown, showBy, showCall}
-use Rattle.plate.proofs.checks.Passed.{passed, sizes-passed}
+use Rattle.plate.proofs.checks.Passed.{sizes-passed, length-passed}
 use Rattle.records.specs.Machine.{planesOf}
 use Rattle.records.proofs.lending.Rooms.{no-room}
 use Rattle.records.proofs.answering.Answers.{accepted-by}
@@ -39,7 +36,7 @@ lent-cells s planes v e =
     let check = showCheck s (length planes) (length (v .scratch)) (length (v .values)) (length (v .mattes)) in
     let yes : check ≡ Accepted = sym (outcome-is check s planes v) ∙ accepted-by _ e in
     let lengths = sizes-passed (s .size) _ yes .1 in
-    eqb-true _ _ (not-false _ (passed (not (eqb (length planes) (planesInAll * padded (s .size)))) _ _ lengths .0))
+    length-passed (length planes) (planesInAll * padded (s .size)) _ lengths .0
 
 pub few-shown : (s : State) (planes : List ℕ) (v : Views) {scratch values mattes : List ℕ} (r : Answer)
     → shown r scratch values mattes ≡ showCall s planes v → length planes ≡ planesOf (s .size) → outcomeNumber (r .outcome) ≡ 0

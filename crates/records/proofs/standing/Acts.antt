@@ -1,12 +1,9 @@
 -- Each record that a run can meet does to the machine what it does to the notebook.
 use mathlib.Core.Path.{_≡_, refl, ap, _∙_}
-use mathlib.Core.Bool.{Bool, true, false}
 use mathlib.Core.List.{[]}
-use mathlib.Core.Logic.{_⊎_, inl, inr, ⊎-elim}
 use Prim.Native.Nat.{ℕ, _*_, _≤_, _<_}
 use native.Mathlib.Omega.{arith}
 use borrow.Author.Tests.{lt-ltb, le-ltb, ne-eqb}
-use lib.Dec.{ltb}
 use lib.ListN.{length, replicate}
 use Rattle.kernels.proofs.numbers.Choices.{by-lt}
 use Rattle.plate.specs.Layout.{padded, places}
@@ -19,6 +16,8 @@ use Rattle.plate.specs.Lent.{stateOf, sizedAs}
 use Rattle.plate.specs.Calls.{zeros, openBy, openCall, putCall, undoCall}
 use Rattle.plate.specs.Word.{empty}
 use Rattle.plate.specs.Lists.{Plate, leftBy}
+use Rattle.plate.proofs.checks.Rows.{by-check}
+use Rattle.plate.proofs.checks.Conditions.{sizes-checks}
 use Rattle.plate.proofs.checks.Passed.{lent-pass}
 use Rattle.plate.proofs.demands.Mirror.{Mirrored, heldBy, mirror, put-agrees, undo-agrees}
 use Rattle.plate.proofs.demands.Fills.{open-kept, open-mirror}
@@ -29,26 +28,7 @@ use Rattle.records.proofs.reading.Bodies.{LawfulRecord}
 use Rattle.records.proofs.lending.Rooms.{has-room, places-few}
 use Rattle.records.proofs.standing.Invariant.{RightLengths, lentOf, Stands, at-closed, at-open, Agrees, part-length, open-again, answered-agrees, show-agree}
 use Rattle.records.specs.Fixed.{cellsTop, logRoom}
-use Rattle.plate.specs.Fixed.{planesInAll, sideTop, placesTop, reachTop}
-
--- 1 BY THE PLATE'S CHECK, whatever comes after it: the sizes are refused, or they pass
-abbrev Refuses : (Outcome → Outcome) → Type 0
-Refuses g = ((next : Outcome) → g next ≡ Refused BadSizes) ⊎ ((next : Outcome) → g next ≡ next)
-
-refuses-if : (t : Bool) (g : Outcome → Outcome) → Refuses g → Refuses (λ next. refuseIf t BadSizes (g next))
-unfolding refuseIf
-refuses-if true g p = inl (λ next. refl)
-refuses-if false g p = p
-
-sizes-refuse : (z : Size) → Refuses (sizesCheck z)
-unfolding sizesCheck
-sizes-refuse z =
-    refuses-if (ltb (z .width) 1) _
-    (refuses-if (ltb sideTop (z .width)) _
-    (refuses-if (ltb (z .height) 1) _
-    (refuses-if (ltb sideTop (z .height)) _
-    (refuses-if (ltb placesTop (z .width * z .height)) _
-    (refuses-if (ltb reachTop (z .reach)) (λ next. next) (inr (λ next. refl)))))))
+use Rattle.plate.specs.Fixed.{planesInAll}
 
 -- OPEN
 abbrev opening : ℕ → Size → Buffers → Did
@@ -105,7 +85,10 @@ module _ (k : ℕ) (z : Size) (b : Buffers) (s : RightLengths b) where
       (refl, open-again z b (openCall z l .kept) planes grid [] h s (ap (λ (p : Plate). p .kept) mirrors) kept)
 
   pub open-agrees : Agrees k (opens z) (opening k z b)
-  open-agrees = ⊎-elim open-sizes (λ fine. by-lt cellsTop (padded z) (open-cells fine) (open-fits fine)) (sizes-refuse z)
+  open-agrees =
+      by-check (sizes-checks z)
+      (λ outside bad. open-sizes bad)
+      (λ lawful fine. by-lt cellsTop (padded z) (open-cells fine) (open-fits fine))
 
 -- A RECORD
 pub acts-agree : (k : ℕ) (s : Stage) (b : Buffers) (d : Desk) (r : Record) → Stands s b d → LawfulRecord r

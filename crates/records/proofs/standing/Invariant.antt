@@ -20,7 +20,7 @@ use Rattle.plate.specs.Calls.{Left, Shown, sumAt, showBy, showCall}
 use Rattle.plate.specs.Notebook.{bookOf, plain, Turn, bookShowBy, bookShow}
 use Rattle.plate.specs.Lists.{Plate, stepOf, shownTo, seenBy}
 use Rattle.plate.specs.code.Bounds.{LawfulSize}
-use Rattle.plate.proofs.checks.Passed.{passes, length-pass, sizes-pass}
+use Rattle.plate.proofs.checks.Passed.{length-pass, sizes-pass}
 use Rattle.plate.proofs.numbers.Lists.{length-listTo}
 use Rattle.plate.proofs.demands.Demand.{show-agrees}
 use Rattle.plate.proofs.demands.Logs.{log-length}
@@ -133,12 +133,12 @@ views-fit z b h s =
     let pictures = has-room z (places z) h in
     let small = places-few z in
     rw (
-      passes _ _ _ (length-pass (length (take (sumsOf z) (b .scratch))) (scratchPlanes * padded z)
-          (part-length (sumsOf z) (b .scratch) (omega (arith, s .scratch-is)) ∙ ap (λ (n : ℕ). scratchPlanes * n) cells)),
-      passes _ _ _ (length-pass (length (take (placesOf z) (b .values))) (places z)
-          (part-length (placesOf z) (b .values) (omega (arith, s .values-are)) ∙ pictures)),
-      passes _ _ _ (length-pass (length (take (placesOf z) (b .mattes))) (places z)
-          (part-length (placesOf z) (b .mattes) (omega (arith, s .mattes-are)) ∙ pictures)),
+      length-pass (length (take (sumsOf z) (b .scratch))) (scratchPlanes * padded z) _
+          (part-length (sumsOf z) (b .scratch) (omega (arith, s .scratch-is)) ∙ ap (λ (n : ℕ). scratchPlanes * n) cells),
+      length-pass (length (take (placesOf z) (b .values))) (places z) _
+          (part-length (placesOf z) (b .values) (omega (arith, s .values-are)) ∙ pictures),
+      length-pass (length (take (placesOf z) (b .mattes))) (places z) _
+          (part-length (placesOf z) (b .mattes) (omega (arith, s .mattes-are)) ∙ pictures),
     )
 
 -- an accepted show keeps the lengths of what it is lent
@@ -150,7 +150,7 @@ shown-by z n planes v lawful cells e =
     let views = viewsCheck z (length (v .scratch)) (length (v .values)) (length (v .mattes)) in
     rw (
       sizes-pass z (lengthCheck (length planes) (planesInAll * padded z) views) lawful,
-      passes _ _ views (length-pass (length planes) (planesInAll * padded z) cells),
+      length-pass (length planes) (planesInAll * padded z) views cells,
       e,
     )
 

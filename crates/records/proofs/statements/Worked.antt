@@ -7,7 +7,7 @@ use Rattle.kernels.specs.Choice.{within}
 use Rattle.kernels.specs.Sum.{sum}
 use Rattle.kernels.specs.Tap.{tap, area, share, weight}
 use Rattle.kernels.specs.Rounding.{nearest, shownValue, shownMatte}
-use Rattle.plate.specs.Refusal.{refuseIf, sizesCheck, placeCheck, kernelCheck, askCheck}
+use Rattle.plate.specs.Refusal.{refuseIf, sizesCheck, placeCheck, shapeCheck, radiusCheck, askCheck}
 use Rattle.plate.specs.Calls.{listTo}
 use Rattle.plate.specs.Plain.{plainSum, plainValues, plainMattes}
 use Rattle.plate.specs.Notebook.{bookPutBy, bookPut, bookUndoOf, bookUndo, bookShowBy}
@@ -41,7 +41,7 @@ printed =
     []
 
 pub worked-text : paperText (codes input) ≡ printed
-unfolding paperText textFrom act opens itemsOf itemsBy recordOf sizesCheck refuseIf bookPut bookPutBy bookUndo bookUndoOf bookShowBy askCheck placeCheck kernelCheck reportText answerText pictureText showText headLine rowsText rowText cellText doneLine decimal digitsBy plainValues plainMattes plainSum listTo weight share area tap sum within shownValue shownMatte nearest
+unfolding paperText textFrom act opens itemsOf itemsBy recordOf sizesCheck refuseIf bookPut bookPutBy bookUndo bookUndoOf bookShowBy askCheck placeCheck shapeCheck radiusCheck reportText answerText pictureText showText headLine rowsText rowText cellText doneLine decimal digitsBy plainValues plainMattes plainSum listTo weight share area tap sum within shownValue shownMatte nearest
 worked-text = refl
 
 -- so the machine writes it too

@@ -3,8 +3,8 @@ use mathlib.Core.Path.{_≡_, sym, _∙_}
 use borrow.Author.Needs.{needs}
 use Rattle.kernels.specs.declared.shape.ShapeRead.the-variants.{Known}
 use Rattle.kernels.specs.Shape.{shapeOf}
-use Rattle.plate.specs.Refusal.{askCheck, placeCheck, kernelCheck, refuseIf}
-use Rattle.plate.proofs.checks.Chains.{tests}
+use Rattle.plate.specs.Refusal.{askCheck, placeCheck, shapeCheck, radiusCheck, refuseIf}
+use Rattle.plate.proofs.checks.Conditions.{tests}
 use Rattle.plate.proofs.check.check_ask.Statement.{statement}
 use Rattle.plate.proofs.check.check_ask.Tie as tie
 
@@ -15,15 +15,15 @@ known : (c : tie.After-known)
 known c = sym (c .before .before .shape-of .ensures) ∙ c .known .given .1
 
 returns : tie.Need-returns
-unfolding askCheck placeCheck kernelCheck refuseIf
+unfolding askCheck placeCheck shapeCheck radiusCheck refuseIf
 returns c = search tests
 
 returns-2 : tie.Need-returns-2
-unfolding askCheck placeCheck kernelCheck refuseIf
+unfolding askCheck placeCheck shapeCheck radiusCheck refuseIf
 returns-2 c = search tests
 
 returns-3 : tie.Need-returns-3
-unfolding askCheck placeCheck kernelCheck refuseIf
+unfolding askCheck placeCheck shapeCheck radiusCheck refuseIf
 returns-3 c = search tests
 
 shape-of-requires : tie.Need-shape-of-requires
@@ -36,26 +36,26 @@ enum-told : tie.Need-enum-told
 enum-told c = search needs
 
 returns-4 : tie.Need-returns-4
-unfolding askCheck placeCheck kernelCheck refuseIf
+unfolding askCheck placeCheck shapeCheck radiusCheck refuseIf
 returns-4 c = rw (← c .before .before .shape-of .ensures, c .enum-told .given .1) (search tests)
 
 top-under-requires : tie.Need-top-under-requires
 top-under-requires c κs = search needs
 
 returns-5 : tie.Need-returns-5
-unfolding askCheck placeCheck kernelCheck refuseIf
+unfolding askCheck placeCheck shapeCheck radiusCheck refuseIf
 returns-5 c =
     let topped = c .before in
     rw (known (topped .before .before), ← topped .top-under .ensures) (search tests)
 
 returns-6 : tie.Need-returns-6
-unfolding askCheck placeCheck kernelCheck refuseIf
+unfolding askCheck placeCheck shapeCheck radiusCheck refuseIf
 returns-6 c =
     let topped = c .before .before in
     rw (known (topped .before .before), ← topped .top-under .ensures) (search tests)
 
 returns-7 : tie.Need-returns-7
-unfolding askCheck placeCheck kernelCheck refuseIf
+unfolding askCheck placeCheck shapeCheck radiusCheck refuseIf
 returns-7 c =
     let topped = c .before .before in
     rw (known (topped .before .before), ← topped .top-under .ensures) (search tests)

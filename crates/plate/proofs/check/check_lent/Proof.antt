@@ -4,7 +4,7 @@ use native.Mathlib.Omega.{arith}
 use borrow.Author.Needs.{needs}
 use Rattle.plate.specs.Layout.{padded, places}
 use Rattle.plate.specs.Refusal.{lentCheck, refuseIf}
-use Rattle.plate.proofs.checks.Chains.{tests}
+use Rattle.plate.proofs.checks.Conditions.{tests}
 use Rattle.plate.proofs.numbers.Extents.{padded-small}
 use Rattle.plate.specs.code.Bounds.{Frame}
 use Rattle.plate.proofs.check.check_lent.Statement.{statement}

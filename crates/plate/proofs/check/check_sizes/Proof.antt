@@ -1,7 +1,7 @@
 -- Each test is the definition's, in its order, and width times height is taken only of sides that are lawful.
 use native.Mathlib.Omega.{arith}
 use Rattle.plate.specs.Refusal.{sizesCheck, refuseIf}
-use Rattle.plate.proofs.checks.Chains.{tests}
+use Rattle.plate.proofs.checks.Conditions.{tests}
 use Rattle.plate.proofs.numbers.Extents.{places-small}
 use Rattle.plate.proofs.check.check_sizes.Statement.{statement}
 use Rattle.plate.proofs.check.check_sizes.Tie as tie

@@ -8,6 +8,9 @@ use borrow.Author.Needs.{needs}
 use Rattle.plate.specs.Word.{Pixel}
 use Rattle.plate.specs.Marks.{exchanged}
 use Rattle.plate.specs.code.Laying.{Placed}
+use Rattle.kernels.specs.declared.shape.Shape.{Shape}
+use Rattle.kernels.specs.declared.share.Share.{Share}
+use Rattle.kernels.specs.Share.{tableShare, shareParts}
 use Rattle.kernels.proofs.taps.Shares.{table-share}
 use Rattle.plate.proofs.exchange.exchange_marks.Statement.{statement}
 use Rattle.plate.proofs.exchange.exchange_marks.Tie as tie
@@ -26,6 +29,10 @@ placed c p fits =
       radius-fits = fits .radius-fits;
     })
 
+-- what the table gives for a pixel is its share
+share-of : (c : tie.After-shares) (s : Shape) (r : ℕ) (q : Share) → q ≡ tableShare (c .shares .result) s r → q ≡ shareParts s r
+share-of c s r q e = e ∙ rw (c .shares .ensures) (table-share s r)
+
 frame-of-requires : tie.Need-frame-of-requires
 frame-of-requires c κs = c .before .pre .lawful
 
@@ -40,24 +47,32 @@ share-in-requires-2 c κs = search needs
 
 take-pixel-requires : tie.Need-take-pixel-requires
 take-pixel-requires c κs =
-    let old-share = c .before .before .before in
+    let new-share = c .before in
+    let old-share = new-share .before .before in
     let shared = old-share .before .before .before .before in
     let framed = shared .before in
-    record {
-      placed = placed framed _ (framed .before .before .pre .old-fits);
-      planes-are = rw (framed .frame-of .ensures) (framed .before .before .pre .planes-are);
-      share-is = old-share .share-in .ensures ∙ rw (shared .shares .ensures) (table-share _ _);
-    }
+    let s = framed .before .before in
+    let old-placed = placed framed _ (s .pre .old-fits) in
+    let new-placed = placed framed _ (s .pre .new-fits) in
+    let old-is = share-of shared _ _ _ (old-share .share-in .ensures) in
+    let new-is = share-of shared _ _ _ (new-share .share-in2 .ensures) in
+    record { placed = search needs; planes-are = rw (framed .frame-of .ensures) (s .pre .planes-are); share-is = search needs }
 
 lay-pixel-requires : tie.Need-lay-pixel-requires
 lay-pixel-requires c κs =
     let new-share = c .before .before .before .before .before in
-    let shared = new-share .before .before .before .before .before .before in
+    let old-share = new-share .before .before in
+    let shared = old-share .before .before .before .before in
     let framed = shared .before in
+    let s = framed .before .before in
+    let old-placed = placed framed _ (s .pre .old-fits) in
+    let new-placed = placed framed _ (s .pre .new-fits) in
+    let old-is = share-of shared _ _ _ (old-share .share-in .ensures) in
+    let new-is = share-of shared _ _ _ (new-share .share-in2 .ensures) in
     record {
-      placed = placed framed _ (framed .before .before .pre .new-fits);
-      planes-are = rw (framed .frame-of .ensures) (search needs ∙ framed .before .before .pre .planes-are);
-      share-is = new-share .share-in2 .ensures ∙ rw (shared .shares .ensures) (table-share _ _);
+      placed = search needs;
+      planes-are = rw (framed .frame-of .ensures) (search needs ∙ s .pre .planes-are);
+      share-is = search needs;
     }
 
 same-length : tie.Need-same-length

@@ -8,7 +8,8 @@ use borrow.Author.Count.{below-more}
 use borrow.Author.Needs.{needs}
 use Rattle.plate.specs.code.Filling.{isBetween}
 use Rattle.plate.proofs.numbers.Extents.{row-in}
-use Rattle.plate.proofs.checks.Scans.{NoneTo, SmallTo, small-all, none-found, one-found, true-not}
+use Rattle.plate.proofs.checks.Scans.{NoneTo, SmallTo, small-all, none-found, one-found}
+use Rattle.plate.proofs.checks.Conditions.{true-not}
 use Rattle.plate.proofs.scan.depth_between.Statement.{statement}
 use Rattle.plate.proofs.scan.depth_between.Tie as tie
 

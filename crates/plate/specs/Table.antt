@@ -1,0 +1,198 @@
+-- THE TABLE OF REFUSALS: when each row is given, in the paper's words, and each call's rows in the order in which it checks them.
+-- DEMAND 1: every call answers by its rows, and a refused call leaves everything as it was.
+use mathlib.Core.Path.{_≡_}
+use mathlib.Core.Logic.{_≢_, _⊎_}
+use mathlib.Core.List.{List, [], _∷_}
+use Prim.Native.Nat.{ℕ, _*_, _-_, _/_, _%_, _^_, _≤_, _<_}
+use lib.ListN.{getD, length}
+use Rattle.kernels.specs.Fixed.{shapeCount, valueTop, depthTop}
+use Rattle.kernels.specs.declared.shape.ShapeRead.{ShapeRead}
+use Rattle.kernels.specs.declared.shape.ShapeRead.the-variants.{Known, Unknown}
+use Rattle.kernels.specs.Shape.{shapeOf, topUnder}
+use Rattle.kernels.specs.declared.lens.Lens.{Lens as LensOf}
+use Rattle.kernels.specs.Lens.{openingTop, focalTop, focusTop, pitchTop}
+use Rattle.plate.specs.Fixed.{planesInAll, scratchPlanes, sideTop, placesTop, reachTop, logTop, wordBits}
+use Rattle.plate.specs.Layout.{Size, sizeFrom, padded, places}
+use Rattle.plate.specs.Lent.{State, stateOf, Lent, Sized, sizedAs, Ask, Inputs, Views}
+use Rattle.plate.specs.Refusal.{Refusal, Sizes, Lengths, LogCount, Place, Value, Shape, Radius, LogFull, LogEmpty, StoredWord, Lens, Depth, Outcome, Accepted, Refused, openCheck}
+use Rattle.plate.specs.Change.{askedPlace}
+use Rattle.plate.specs.Calls.{Left, refused, Shown, shows, answerOf, openCall, putCall, undoCall, fillCall, showCall}
+
+-- ROWS
+-- a row as a call meets it: the refusal, and what it is given for
+pub record Row : Type 1 where
+  pub refusal : Refusal
+  pub given : Type 0
+
+abbrev pub row : Refusal → Type 0 → Row
+row f given = record { refusal = f; given = given }
+
+-- "The lowest number that applies is given": the answer is the refusal of the first row that applies, and the call is accepted
+-- where none does
+unfoldable pub FirstOf : List Row → Outcome → Type 0
+FirstOf [] o = o ≡ Accepted
+FirstOf (r ∷ rows) o = (r .given × (o ≡ Refused (r .refusal))) ⊎ ((¬ (r .given)) × FirstOf rows o)
+
+-- none of them applies
+unfoldable pub NoneOf : List Row → Type 0
+NoneOf [] = Unit {0}
+NoneOf (r ∷ rows) = (¬ (r .given)) × NoneOf rows
+
+-- WHEN EACH IS GIVEN
+-- a number that is not one from low to top
+abbrev pub Outside : ℕ → ℕ → ℕ → Type 0
+Outside low top n = (n < low) ⊎ (top < n)
+
+-- 1: "W, H, W × H or R outside", that is of "W and H from 1 to 4,096, W × H at most 2,097,152 .., R from 0 to 64"
+unfoldable pub SizesOutside : Size → Type 0
+SizesOutside z =
+    Outside 1 sideTop (z .width) ⊎ Outside 1 sideTop (z .height) ⊎ (placesTop < z .width * z .height) ⊎ (reachTop < z .reach)
+
+-- 2: "a lent length is wrong, a log above 65,535 too": "planes 14 × P, pixels W × H words .., log 0 to 65,535 entries"
+unfoldable pub LentWrong : Size → Sized → Type 0
+LentWrong z n = (n .planes ≢ planesInAll * padded z) ⊎ (n .pixels ≢ places z) ⊎ (logTop < n .log)
+
+-- "fill's three inputs W × H each"
+unfoldable pub InputsWrong : Size → Inputs → Type 0
+InputsWrong z f = (length (f .values) ≢ places z) ⊎ (length (f .opacities) ≢ places z) ⊎ (length (f .depths) ≢ places z)
+
+-- what a show is lent: planes, "scratch 3 × P; the two pictures .. W × H each"
+unfoldable pub ViewsWrong : Size → List ℕ → Views → Type 0
+ViewsWrong z planes v =
+    (length planes ≢ planesInAll * padded z)
+    ⊎ (length (v .scratch) ≢ scratchPlanes * padded z)
+    ⊎ (length (v .values) ≢ places z)
+    ⊎ (length (v .mattes) ≢ places z)
+
+-- 4: "x ≥ W or y ≥ H"
+unfoldable pub PlaceOutside : Size → ℕ → ℕ → Type 0
+PlaceOutside z x y = (z .width ≤ x) ⊎ (z .height ≤ y)
+
+-- one of the numbers is above the top: 5 and 12 of a fill
+unfoldable pub SomeAbove : ℕ → List ℕ → Type 0
+SomeAbove top [] = ⊥
+SomeAbove top (n ∷ ns) = (top < n) ⊎ SomeAbove top ns
+
+-- 6: "shape above 5"
+abbrev pub ShapeAbove : ℕ → Type 0
+ShapeAbove n = shapeCount ≤ n
+
+-- 7: "r above top under R", the top of the shape that is read
+unfoldable pub RadiusAbove : ℕ → ShapeRead → ℕ → Type 0
+RadiusAbove R Unknown r = ⊥
+RadiusAbove R (Known s) r = topUnder s R < r
+
+-- 10: "stored word or entry breaks 4, 6, 7 or the zero bits", with "shape in 20 to 23, radius in 24 to 31, zeros above"
+unfoldable pub WordBroken : ℕ → ℕ → Type 0
+WordBroken R w =
+    let shape = w / 2 ^ 20 % 16 in
+    let radius = w / 2 ^ 24 % 256 in
+    (2 ^ wordBits ≤ w) ⊎ ShapeAbove shape ⊎ RadiusAbove R (shapeOf shape) radius
+
+-- the place that an entry keeps above its word, "place being y × W + x"
+abbrev pub placeIn : ℕ → ℕ
+placeIn e = e / 2 ^ wordBits
+
+unfoldable pub EntryBroken : Size → ℕ → Type 0
+EntryBroken z e =
+    PlaceOutside z (placeIn e % z .width) (placeIn e / z .width) ⊎ WordBroken (z .reach) (e % 2 ^ wordBits)
+
+-- 11: "D, f, S or p outside", that is of "opening D and focal length f (1 to 4,000), focus S (above f, at most 10,000,000), ..
+-- pitch p 1 to 1,000"
+unfoldable pub LensOutside : LensOf → Type 0
+LensOutside l =
+    Outside 1 openingTop (l .opening)
+    ⊎ Outside 1 focalTop (l .focal)
+    ⊎ (l .focus ≤ l .focal)
+    ⊎ (focusTop < l .focus)
+    ⊎ Outside 1 pitchTop (l .pitch)
+
+-- THE ROWS OF EACH CALL: "a call checks only what it is lent"
+-- 1 2
+abbrev pub openRows : Size → Lent → List Row
+openRows z l = row Sizes (SizesOutside z) ∷ row Lengths (LentWrong z (sizedAs l)) ∷ []
+
+-- 1 2 3 4 5 6 7 8 10; "For 10, put reads the word at its place"
+abbrev pub putRows : State → Ask → Lent → List Row
+putRows s a l =
+    let z = s .size in
+    row Sizes (SizesOutside z)
+    ∷ row Lengths (LentWrong z (sizedAs l))
+    ∷ row LogCount (length (l .log) < s .count)
+    ∷ row Place (PlaceOutside z (a .x) (a .y))
+    ∷ row Value (valueTop < a .value)
+    ∷ row Shape (ShapeAbove (a .shape))
+    ∷ row Radius (RadiusAbove (z .reach) (shapeOf (a .shape)) (a .radius))
+    ∷ row LogFull (s .count ≡ length (l .log))
+    ∷ row StoredWord (WordBroken (z .reach) (getD (l .pixels) (askedPlace z a) 0))
+    ∷ []
+
+-- 1 2 3 9 10; "undo the last entry and the word at that entry's place"
+abbrev pub undoRows : State → Lent → List Row
+undoRows s l =
+    let z = s .size in
+    let entry = getD (l .log) (s .count - 1) 0 in
+    row Sizes (SizesOutside z)
+    ∷ row Lengths (LentWrong z (sizedAs l))
+    ∷ row LogCount (length (l .log) < s .count)
+    ∷ row LogEmpty (s .count ≡ 0)
+    ∷ row StoredWord (EntryBroken z entry ⊎ WordBroken (z .reach) (getD (l .pixels) (placeIn entry) 0))
+    ∷ []
+
+-- 1 2 3 5 6 11 12
+abbrev pub fillRows : State → LensOf → ℕ → Inputs → Lent → List Row
+fillRows s o shape f l =
+    let z = s .size in
+    row Sizes (SizesOutside z)
+    ∷ row Lengths (LentWrong z (sizedAs l) ⊎ InputsWrong z f)
+    ∷ row LogCount (length (l .log) < s .count)
+    ∷ row Value (SomeAbove valueTop (f .values))
+    ∷ row Shape (ShapeAbove shape)
+    ∷ row Lens (LensOutside o)
+    ∷ row Depth (SomeAbove depthTop (f .depths))
+    ∷ []
+
+-- 1 2
+abbrev pub showRows : State → List ℕ → Views → List Row
+showRows s planes v = row Sizes (SizesOutside (s .size)) ∷ row Lengths (ViewsWrong (s .size) planes v) ∷ []
+
+-- DEMAND 1
+-- a call that goes by its rows: its answer is theirs, and "after a refusal every lent buffer is as before", the mark count 0 and
+-- the state that is handed back
+pub record GoesBy (rows : List Row) (s : State) (l : Lent) (call : Left) : Type 0 where
+  pub first : FirstOf rows (call .answer .outcome)
+  pub untouched : (f : Refusal) → call .answer .outcome ≡ Refused f → call ≡ refused f s l
+
+pub record ShowGoesBy (rows : List Row) (s : State) (v : Views) (call : Shown) : Type 0 where
+  pub first : FirstOf rows (call .answer .outcome)
+  pub untouched : (f : Refusal) → call .answer .outcome ≡ Refused f → call ≡ shows (answerOf (Refused f) 0 s) v
+
+-- "Any call of a public entry, with any sizes, buffers, stored words .., gets the finished work or exactly the refusal the
+-- paper's table fixes"; the state is "all zero from open"
+pub record Demand1 : Type 0 where
+  pub open-by : (z : Size) (l : Lent) → GoesBy (openRows z l) (stateOf (sizeFrom 0 0 0) 0) l (openCall z l)
+  pub put-by : (s : State) (a : Ask) (l : Lent) → GoesBy (putRows s a l) s l (putCall s a l)
+  pub undo-by : (s : State) (l : Lent) → GoesBy (undoRows s l) s l (undoCall s l)
+  pub fill-by : (s : State) (o : LensOf) (shape : ℕ) (f : Inputs) (l : Lent)
+      → GoesBy (fillRows s o shape f l) s l (fillCall s o shape f l)
+  pub show-by : (s : State) (planes : List ℕ) (v : Views) → ShowGoesBy (showRows s planes v) s v (showCall s planes v)
+
+-- PLATES THERE ARE
+-- "W and H from 1 to 4,096, W × H at most 2,097,152 .., R from 0 to 64"
+pub record LawfulSize (z : Size) : Type 0 where
+  pub width-some : 1 ≤ z .width
+  pub width-top : z .width ≤ sideTop
+  pub height-some : 1 ≤ z .height
+  pub height-top : z .height ≤ sideTop
+  pub places-top : z .width * z .height ≤ placesTop
+  pub reach-top : z .reach ≤ reachTop
+
+-- "planes 14 × P, pixels W × H words .., log 0 to 65,535 entries"
+pub record LentFor (z : Size) (n : Sized) : Type 0 where
+  pub planes-are : n .planes ≡ planesInAll * padded z
+  pub pixels-are : n .pixels ≡ places z
+  pub log-top : n .log ≤ logTop
+
+-- every open with lawful sizes and right lengths is accepted, so that demands 2 and 3 speak of every plate
+abbrev pub OpenAccepts : Type 0
+OpenAccepts = (z : Size) (l : Lent) → LawfulSize z → LentFor z (sizedAs l) → openCheck z (sizedAs l) ≡ Accepted
