@@ -1,10 +1,8 @@
 // The marks of a kernel, as the plate lays them: a grid of boxes, or two lines by the ends of their pieces.
 ghost use mathlib.Core.Path.{_≡_};
 ghost use Prim.Native.Nat.{_+_, _*_, _≤_};
-ghost use Rattle.kernels.specs.Shape.{reachOf};
-ghost use Rattle.kernels.specs.Fixed.{level, margin};
-ghost use Rattle.kernels.specs.Mark.{tapMarks};
-ghost use Rattle.kernels.specs.code.Drawing.{drawnMarks, outlineOf};
+ghost use Rattle.kernels.specs.Fixed.{level};
+ghost use Rattle.kernels.specs.code.Drawing.{outlineOf, drawingOf};
 use crate::fixed::LEVEL;
 use crate::fixed::MARGIN;
 use crate::fixed::SECOND_BOX;
@@ -85,7 +83,7 @@ fn piece_ends(
 
 // The marks of the kernel of a shape and a radius.
 pub fn draw(s: Shape, radius: u8) -> Drawing
-    ensures { λ r. ⌜ drawnMarks r ≡ tapMarks s radius (reachOf s radius + margin) (reachOf s radius + margin) ⌝ }
+    ensures { λ r. ⌜ r ≡ drawingOf s radius ⌝ }
 {
     let r = radius as usize;
     let t = r / 2;

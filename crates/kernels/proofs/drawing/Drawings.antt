@@ -3,13 +3,15 @@ use mathlib.Core.Path.{_≡_}
 use mathlib.Core.Bool.{true, false}
 use Prim.Native.Nat.{ℕ, _+_, _*_, _-_, _≤_}
 use native.Mathlib.Omega.{arith}
-use Rattle.kernels.specs.Fixed.{level, margin}
-use Rattle.kernels.specs.Mark.{lineMarks, flipped, outlineMarks, boxGrid, boxMarks, diamondMarks}
+use Rattle.kernels.specs.Fixed.{level, secondBox, thirdBox, margin}
+use Rattle.kernels.specs.Shape.{Shape, Box, Tent, Triple, Diamond, Hexagon, Octagon, reachOf}
+use Rattle.kernels.specs.Tap.{half}
+use Rattle.kernels.specs.Mark.{lineMarks, flipped, outlineMarks, boxGrid, boxMarks, diamondMarks, hexagonMarks, octagonMarks, tapMarks}
 use Rattle.kernels.proofs.marking.Kernel.{threeRuns}
-use Rattle.kernels.specs.code.Drawing.{Lines, drawnMarks, linePieces, outlineOf}
+use Rattle.kernels.specs.code.Drawing.{Lines, drawnMarks, linePieces, outlineOf, drawingOf}
 
 -- a grid whose first mark lies at the margin
-pub grid-drawn : (p n r : ℕ) → boxGrid p n (2 * r + 1) margin margin ≡ boxMarks p n r (n * r + margin) (n * r + margin)
+grid-drawn : (p n r : ℕ) → boxGrid p n (2 * r + 1) margin margin ≡ boxMarks p n r (n * r + margin) (n * r + margin)
 unfolding boxMarks
 grid-drawn p n r = let e : n * r + margin - n * r ≡ margin = omega arith in rw e
 
@@ -36,7 +38,7 @@ no-flat : (n : ℕ) → n + 0 ≡ n
 no-flat n = omega arith
 
 -- LINES WITHOUT A LEVEL PIECE, AND WITH ONE
-pub diamond-drawn : (r : ℕ) → drawnMarks (Lines (outlineOf r 0 1 r 0 false)) ≡ diamondMarks r (r + margin) (r + margin)
+diamond-drawn : (r : ℕ) → drawnMarks (Lines (outlineOf r 0 1 r 0 false)) ≡ diamondMarks r (r + margin) (r + margin)
 unfolding drawnMarks linePieces outlineOf diamondMarks outlineMarks lineMarks flipped
 diamond-drawn r =
     let y = r + margin - 0 in
@@ -50,7 +52,7 @@ diamond-drawn r =
       back-row z 1 r,
     )
 
-pub flat-drawn : (r h k a b : ℕ) → h + k * a ≤ r
+flat-drawn : (r h k a b : ℕ) → h + k * a ≤ r
     → drawnMarks (Lines (outlineOf r h k a b true)) ≡ outlineMarks r h (threeRuns k a b) (r + margin) (r + margin)
 unfolding drawnMarks linePieces outlineOf outlineMarks lineMarks flipped
 flat-drawn r h k a b p =
@@ -67,3 +69,19 @@ flat-drawn r h k a b p =
       flat-row (z + k * a) b,
       back-row z k a,
     )
+
+-- EVERY KERNEL
+-- a line kernel reaches its radius
+reach-one : (r : ℕ) → 1 * r + margin ≡ r + margin
+reach-one r = omega arith
+
+-- what `draw` hands out are the kernel's marks, around its own centre
+pub drawing-marks : (s : Shape) (r : ℕ)
+    → drawnMarks (drawingOf s r) ≡ tapMarks s r (reachOf s r + margin) (reachOf s r + margin)
+unfolding drawingOf tapMarks hexagonMarks octagonMarks
+drawing-marks Box r = unfold drawnMarks in (grid-drawn level 1 r)
+drawing-marks Tent r = unfold drawnMarks in (grid-drawn secondBox 2 r)
+drawing-marks Triple r = unfold drawnMarks in (grid-drawn thirdBox 3 r)
+drawing-marks Diamond r = rw (reach-one r) (diamond-drawn r)
+drawing-marks Hexagon r = rw (reach-one r) (flat-drawn r 0 2 (half r) (2 * (r - half r)) (omega arith))
+drawing-marks Octagon r = rw (reach-one r) (flat-drawn r (half r) 1 (r - half r) (2 * half r) (omega arith))

@@ -14,7 +14,7 @@ use Rattle.kernels.proofs.marking.Kernel.{twoRuns, Walks, diamond-walks
 use Rattle.kernels.specs.code.Drawing.{moved}
 
 -- AS MANY AS THE TABLE SAYS
-pub tap-marks-count : (s : Shape) (r X Y : ℕ) → length (tapMarks s r X Y) ≡ countOf s
+tap-marks-count : (s : Shape) (r X Y : ℕ) → length (tapMarks s r X Y) ≡ countOf s
 unfolding tapMarks boxMarks boxGrid marksTo diamondMarks hexagonMarks octagonMarks outlineMarks lineMarks flipped
 tap-marks-count Box r X Y = refl
 tap-marks-count Tent r X Y = refl

@@ -1,10 +1,12 @@
 -- A kernel's marks as the code hands them out: the boxes' grid, or the ends of the pieces of the two lines, counted from the
 -- corner of the smallest padded plane that has the kernel in its middle, n r + margin on both axes.
-use mathlib.Core.Bool.{Bool}
+use mathlib.Core.Bool.{Bool, true, false}
 use mathlib.Core.List.{List, [], _∷_, _++_}
 use Prim.Native.Nat.{ℕ, _+_, _*_, _-_}
-use Rattle.kernels.specs.Fixed.{level, margin}
+use Rattle.kernels.specs.Fixed.{level, secondBox, thirdBox, margin}
 use Rattle.kernels.specs.Choice.{pick}
+use Rattle.kernels.specs.Shape.{Shape, Box, Tent, Triple, Diamond, Hexagon, Octagon}
+use Rattle.kernels.specs.Tap.{half}
 use Rattle.kernels.specs.Mark.{Mark, mark, minus, boxGrid}
 pub use Rattle.kernels.specs.declared.mark.Boxes.{Boxes}
 pub use Rattle.kernels.specs.declared.mark.Line.{Line}
@@ -48,3 +50,16 @@ outlineOf r h k a b f =
       top = record { edge = r + margin - h; level = r + margin - h - k * a; past = r + margin - h + k };
       bottom = record { edge = r + margin + h + 1; level = r + margin + h + 1 + k * a; past = r + margin + h + 1 - k };
     }
+
+-- n boxes of radius r in plane p
+abbrev pub boxesIn : ℕ → ℕ → ℕ → Drawing
+boxesIn p n r = Grid (record { plane = p; count = n; side = 2 * r + 1 })
+
+-- the drawing of a kernel; a diamond's lines have no level piece
+unfoldable pub drawingOf : Shape → ℕ → Drawing
+drawingOf Box r = boxesIn level 1 r
+drawingOf Tent r = boxesIn secondBox 2 r
+drawingOf Triple r = boxesIn thirdBox 3 r
+drawingOf Diamond r = Lines (outlineOf r 0 1 r 0 false)
+drawingOf Hexagon r = Lines (outlineOf r 0 2 (half r) (2 * (r - half r)) true)
+drawingOf Octagon r = Lines (outlineOf r (half r) 1 (r - half r) (2 * half r) true)

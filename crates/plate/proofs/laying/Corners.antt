@@ -1,24 +1,20 @@
 -- A kernel's drawing, laid from its corner, is the kernel's marks laid around its pixel.
-use mathlib.Core.Path.{_≡_, refl, ap, sym, _∙_}
+use mathlib.Core.Path.{_≡_, refl, ap, _∙_}
 use mathlib.Core.List.{List, [], _∷_}
-use Prim.Native.Nat.{ℕ, zero, suc, _+_, _*_, _-_, _%_, _^_, _≤_, _<_}
+use Prim.Native.Nat.{ℕ, _+_, _*_, _-_, _%_, _^_, _≤_, _<_}
 use native.Mathlib.Omega.{arith}
 use native.Mathlib.Nat.{mul-assoc, mod-mod, mod-eq-of-lt, div-eq-of-lt, mul-add-mod-self-right, mul-add-div-right, mul-le-mul-right}
-use lib.ListN.{length, length-append}
 use Rattle.kernels.specs.declared.shape.Shape.{Shape}
-use Rattle.kernels.specs.declared.mark.Drawing.{Drawing}
-use Rattle.kernels.specs.declared.mark.Drawing.the-variants.{Grid, Lines}
-use Rattle.kernels.specs.Shape.{reachOf, topOf, countOf}
+use Rattle.kernels.specs.declared.shape.Shape.the-variants.{Box, Tent, Triple, Diamond, Hexagon, Octagon}
+use Rattle.kernels.specs.Shape.{reachOf, topOf}
 use Rattle.kernels.specs.Tap.{share, shareUpTo}
 use Rattle.kernels.specs.declared.share.Share.{Share}
 use Rattle.kernels.specs.Share.{shareParts}
 use Rattle.plate.proofs.laying.Cells.{reach-under}
-use Rattle.kernels.specs.Mark.{Mark, minus, scaled, marksTo, boxGrid, tapMarks, marks}
-use Rattle.kernels.specs.code.Drawing.{drawnMarks, moved}
-use Rattle.kernels.proofs.numbers.Products.{product-le}
-use Rattle.kernels.proofs.taps.ShapeNumbers.{count-few}
-use Rattle.kernels.proofs.numbers.Choices.{within-yes, by-lt}
-use Rattle.kernels.proofs.drawing.MarkPlaces.{Each, Near, marks-near, tap-marks-moved, tap-marks-count}
+use Rattle.kernels.specs.Mark.{Mark, minus, scaled, tapMarks, marks}
+use Rattle.kernels.specs.code.Drawing.{moved, drawingOf}
+use Rattle.kernels.proofs.numbers.Choices.{within-yes}
+use Rattle.kernels.proofs.drawing.MarkPlaces.{Each, Near, marks-near, tap-marks-moved}
 use Rattle.plate.specs.Fixed.{planesInAll}
 use Rattle.plate.specs.Layout.{Size, wide, high, padded, columnOf, rowOf}
 use Rattle.plate.specs.Word.{Pixel}
@@ -178,28 +174,12 @@ opposite-laid z l m cells (k ∷ ms) =
     ∙ opposite-laid z l m _ ms
 
 -- BOXES
--- n boxes make (n + 1)² marks, and a kernel has 4 to 16, so that it has one to three boxes
-length-to : (f : ℕ → List Mark) (k n : ℕ) → ((i : ℕ) → length (f i) ≡ k) → length (marksTo f n) ≡ n * k
-unfolding marksTo
-length-to f k zero h = omega arith
-length-to f k (suc n) h = rw (length-append, length-to f k n h, h n) (omega arith)
-
-grid-length : (p n l x y : ℕ) → length (boxGrid p n l x y) ≡ suc n * suc n
-unfolding boxGrid
-grid-length p n l x y =
-    length-to _ (suc n) (suc n) (λ i. length-to _ 1 (suc n) (λ j. refl) ∙ omega arith)
-
-one-to-three : (n k : ℕ) → suc n * suc n ≡ k → 4 ≤ k → k ≤ 16 → (1 ≤ n) × (n ≤ 3)
-one-to-three n k e h g =
-    by-lt n 1 (λ p. let q : suc n * suc n ≤ 1 * 1 = product-le (suc n) (suc n) 1 1 (omega arith) (omega arith) in absurd (omega arith))
-    (λ p. by-lt 3 n (λ q. let r : 5 * 5 ≤ suc n * suc n = product-le 5 5 (suc n) (suc n) (omega arith) (omega arith) in absurd (omega arith))
-    (λ q. (p, q)))
-
-pub few-boxes : (d : Drawing) (s : Shape) (r X Y : ℕ) → drawnMarks d ≡ tapMarks s r X Y → FewBoxes d
-unfolding FewBoxes drawnMarks
-few-boxes (Grid b) s r X Y e =
-    one-to-three (b .count) (countOf s)
-    (sym (grid-length (b .plane) (b .count) (b .side) margin margin) ∙ ap length e ∙ tap-marks-count s r X Y)
-    (count-few s .0)
-    (count-few s .1)
-few-boxes (Lines o) s r X Y e = tt
+-- a kernel has one to three of them
+pub few-boxes : (s : Shape) (r : ℕ) → FewBoxes (drawingOf s r)
+unfolding FewBoxes drawingOf
+few-boxes Box r = omega arith
+few-boxes Tent r = omega arith
+few-boxes Triple r = omega arith
+few-boxes Diamond r = tt
+few-boxes Hexagon r = tt
+few-boxes Octagon r = tt

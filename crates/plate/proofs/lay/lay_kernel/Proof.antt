@@ -1,5 +1,6 @@
--- What is laid is what `draw` hands out: the kernel's marks, counted from the corner.
+-- What is laid is what `draw` hands out, and its marks are the kernel's, counted from the corner.
 use borrow.Author.Needs.{needs}
+use Rattle.kernels.proofs.drawing.Drawings.{drawing-marks}
 use Rattle.plate.proofs.laying.Corners.{few-boxes}
 use Rattle.plate.proofs.lay.lay_kernel.Statement.{statement}
 use Rattle.plate.proofs.lay.lay_kernel.Tie as tie
@@ -11,8 +12,8 @@ lay-drawing-requires : tie.Need-lay-drawing-requires
 lay-drawing-requires c κs =
     let s = c .before .before .before in
     let a = s .args in (
-      rw (c .draw .ensures) (s .pre),
-      few-boxes (c .draw .result) (a .shape) (a .radius) _ _ (c .draw .ensures),
+      rw (c .draw .ensures, drawing-marks) (s .pre),
+      rw (c .draw .ensures) (few-boxes (a .shape) (a .radius)),
     )
 
 same-length : tie.Need-same-length
@@ -20,7 +21,7 @@ same-length c = search needs
 
 returns : tie.Need-returns
 returns c =
-    let laid = c .before .before in rw (laid .lay-drawing .ensures, laid .before .draw .ensures)
+    let laid = c .before .before in rw (laid .lay-drawing .ensures, laid .before .draw .ensures, drawing-marks)
 
 pub lay-kernel-spec : {M : Type 1} → statement M
 lay-kernel-spec = tie.close (tie.spec draw-requires lay-drawing-requires same-length returns)
