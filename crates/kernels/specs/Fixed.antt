@@ -51,3 +51,17 @@ matteTop = 255
 -- "depth Z (0 to 10,000,000)"
 abbrev pub depthTop : ℕ
 depthTop = 10000000
+
+-- "An accepted call returns number 0": and the numbers of the refusals that a kernel's answer can have, "6 shape above 5",
+-- "11 D, f, S or p outside", "12 a depth above 10,000,000"
+abbrev pub accepted : ℕ
+accepted = 0
+
+abbrev pub shapeRefused : ℕ
+shapeRefused = 6
+
+abbrev pub lensRefused : ℕ
+lensRefused = 11
+
+abbrev pub depthRefused : ℕ
+depthRefused = 12

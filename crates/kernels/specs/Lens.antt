@@ -2,8 +2,9 @@
 use mathlib.Core.Bool.{Bool, true, false}
 use Prim.Native.Nat.{ℕ, zero, suc, _*_, _-_, min}
 use lib.Dec.{leb, ltb}
-use Rattle.kernels.specs.Fixed.{depthTop}
+use Rattle.kernels.specs.Fixed.{depthTop, accepted, lensRefused, depthRefused}
 use Rattle.kernels.specs.Choice.{pick}
+use Rattle.kernels.specs.Told.{Told, told}
 use Rattle.kernels.specs.Sum.{dist}
 use Rattle.kernels.specs.Rounding.{nearest}
 pub use Rattle.kernels.specs.declared.lens.Lens.{Lens}
@@ -49,6 +50,15 @@ blur l (suc m) =
     (lensFactor * l .opening * l .focal * dist (suc m) (l .focus))
     (l .pitch * suc m * (l .focus - l .focal))
 
--- "then at most the shape's top under R", for a "depth Z (0 to 10,000,000)"
-unfoldable pub radiusFrom : Lens → ℕ → ℕ → Radius
-radiusFrom l top z = pick (lawfulLens l) (pick (leb z depthTop) (Pixels (min top (blur l z))) NoDepth) NoLens
+-- what a radius that was found tells
+unfoldable pub radiusTold : Radius → Told
+radiusTold (Pixels r) = told accepted r
+radiusTold NoLens = told lensRefused 0
+radiusTold NoDepth = told depthRefused 0
+
+-- and what it has to tell: "then at most the shape's top under R"; "D, f, S or p outside" is 11, "a depth above 10,000,000" 12
+unfoldable pub radiusFor : Lens → ℕ → ℕ → Told
+radiusFor l top z =
+    pick (lawfulLens l)
+    (pick (leb z depthTop) (told accepted (min top (blur l z))) (told depthRefused 0))
+    (told lensRefused 0)

@@ -1,5 +1,6 @@
 pub mod Fixed
 pub mod Choice
+pub mod Told
 pub mod Sum
 pub mod Shape
 pub mod Tap

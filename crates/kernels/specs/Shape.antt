@@ -2,6 +2,10 @@
 use Prim.Native.Nat.{ℕ, _*_, _/_, min}
 use mathlib.Core.List.{List, [], _∷_}
 use lib.ListN.{getD}
+use lib.Dec.{ltb}
+use Rattle.kernels.specs.Fixed.{shapeCount, accepted, shapeRefused}
+use Rattle.kernels.specs.Choice.{pick}
+use Rattle.kernels.specs.Told.{Told, told}
 pub use Rattle.kernels.specs.declared.shape.Shape.{Shape}
 pub use Rattle.kernels.specs.declared.shape.Shape.the-variants.{Box, Tent, Triple, Diamond, Hexagon, Octagon}
 pub use Rattle.kernels.specs.declared.shape.ShapeRead.{ShapeRead}
@@ -22,6 +26,14 @@ shapes = Known Box ∷ Known Tent ∷ Known Triple ∷ Known Diamond ∷ Known H
 
 abbrev pub shapeOf : ℕ → ShapeRead
 shapeOf n = getD shapes n Unknown
+
+-- what a shape that was read tells, and what it has to tell for a number: "shape above 5" is 6
+unfoldable pub shapeTold : ShapeRead → Told
+shapeTold (Known s) = told accepted (numberOf s)
+shapeTold Unknown = told shapeRefused 0
+
+unfoldable pub shapeFor : ℕ → Told
+shapeFor n = pick (ltb n shapeCount) (told accepted n) (told shapeRefused 0)
 
 -- "With n boxes (1, 2, 3) ..; n is 1 for shapes 3 to 5."
 abbrev pub boxesOf : Shape → ℕ

@@ -5,7 +5,7 @@ ghost use mathlib.Core.Path.{_≡_};
 ghost use mathlib.Core.Bool.{true};
 ghost use Prim.Native.Nat.{_≤_};
 ghost use Rattle.kernels.specs.Sum.{dist};
-ghost use Rattle.kernels.specs.Lens.{lawfulLens, blur, radiusFrom};
+ghost use Rattle.kernels.specs.Lens.{lawfulLens, blur, radiusTold, radiusFor};
 ghost use Rattle.kernels.specs.Fixed.{depthTop};
 
 // Opening, focal length and focus in 0.1 mm, pitch in 0.1 µm.
@@ -94,7 +94,7 @@ fn blurred(l: Lens, depth: u32) -> u64
 
 // The radius of a pixel at a depth, at most the top that its shape and its plate give. Depth 0 is infinity.
 pub fn radius_from(l: Lens, top: u8, depth: u32) -> Radius
-    ensures { λ r. ⌜ r ≡ radiusFrom l top depth ⌝ }
+    ensures { λ r. ⌜ radiusTold r ≡ radiusFor l top depth ⌝ }
 {
     if !lawful_lens(l) {
         return Radius::NoLens;

@@ -1,6 +1,6 @@
 // The six shapes of a lens opening.
 ghost use mathlib.Core.Path.{_≡_};
-ghost use Rattle.kernels.specs.Shape.{numberOf, shapeOf, boxesOf, topOf, countOf, reachOf, topUnder};
+ghost use Rattle.kernels.specs.Shape.{numberOf, shapeTold, shapeFor, boxesOf, topOf, countOf, reachOf, topUnder};
 
 pub enum Shape {
     Box,
@@ -32,7 +32,7 @@ pub fn number(s: Shape) -> u8
 
 // The shape that a number names; a number above 5 names none.
 pub fn shape_of(n: u8) -> ShapeRead
-    ensures { λ r. ⌜ r ≡ shapeOf n ⌝ }
+    ensures { λ r. ⌜ shapeTold r ≡ shapeFor n ⌝ }
 {
     match n {
         0 => ShapeRead::Known(Shape::Box),

@@ -1,16 +1,17 @@
 -- Laws of the thin lens formula.
-use mathlib.Core.Path.{_≡_, refl}
+use mathlib.Core.Path.{_≡_, refl, ap, _∙_}
 use mathlib.Core.Bool.{Bool, true, false}
 use Prim.Native.Nat.{ℕ, zero, suc, _+_, _*_, _-_, _<_, _≤_, min}
 use native.Mathlib.Omega.{arith}
 use lib.Dec.{ltb, leb}
 use borrow.Author.Tests.{ltb-false, leb-false, le-ltb, le-leb, lt-leb}
 use Rattle.kernels.proofs.numbers.Products.{product-le}
-use Rattle.kernels.specs.Fixed.{depthTop}
+use Rattle.kernels.specs.Fixed.{depthTop, accepted, lensRefused, depthRefused}
 use Rattle.kernels.specs.Choice.{pick}
+use Rattle.kernels.specs.Told.{Told, told}
 use Rattle.kernels.specs.Sum.{dist}
 use Rattle.kernels.specs.Rounding.{nearest}
-use Rattle.kernels.specs.Lens.{Lens, Pixels, NoLens, NoDepth, openingTop, focalTop, focusTop, pitchTop, lensFactor, lawfulLens, blur, radiusFrom}
+use Rattle.kernels.specs.Lens.{Lens, Radius, Pixels, NoLens, NoDepth, openingTop, focalTop, focusTop, pitchTop, lensFactor, lawfulLens, blur, radiusTold, radiusFor}
 
 -- what a lawful lens keeps to
 pub record Lawful (l : Lens) : Type 0 where
@@ -118,16 +119,28 @@ unfolding blur
 blur-near l zero some = absurd (some refl)
 blur-near l (suc m) some = refl
 
--- the three answers
-pub no-lens : (l : Lens) (top z : ℕ) → lawfulLens l ≡ false → radiusFrom l top z ≡ NoLens
-unfolding radiusFrom
+-- WHAT A RADIUS TELLS
+pub no-lens : (l : Lens) (top z : ℕ) → lawfulLens l ≡ false → radiusFor l top z ≡ told lensRefused 0
+unfolding radiusFor
 no-lens l top z e = simp e
 
-pub no-depth : (l : Lens) (top z : ℕ) → lawfulLens l ≡ true → depthTop < z → radiusFrom l top z ≡ NoDepth
-unfolding radiusFrom
+pub no-depth : (l : Lens) (top z : ℕ) → lawfulLens l ≡ true → depthTop < z → radiusFor l top z ≡ told depthRefused 0
+unfolding radiusFor
 no-depth l top z e h = simp (e, lt-leb z depthTop h)
 
 pub in-pixels :
-    (l : Lens) (top z : ℕ) → lawfulLens l ≡ true → z ≤ depthTop → radiusFrom l top z ≡ Pixels (min top (blur l z))
-unfolding radiusFrom
+    (l : Lens) (top z : ℕ) → lawfulLens l ≡ true → z ≤ depthTop → radiusFor l top z ≡ told accepted (min top (blur l z))
+unfolding radiusFor
 in-pixels l top z e h = simp (e, le-leb z depthTop h)
+
+-- an accepted radius is one of pixels
+pixels-told : (r : Radius) (m : ℕ) → radiusTold r ≡ told accepted m → r ≡ Pixels m
+unfolding radiusTold
+pixels-told (Pixels r) m e = ap Pixels (ap (λ (t : Told). t .value) e)
+pixels-told NoLens m e = absurd (omega (arith, ap (λ (t : Told). t .number) e))
+pixels-told NoDepth m e = absurd (omega (arith, ap (λ (t : Told). t .number) e))
+
+-- the radius that is read, for a lawful lens and depth
+pub radius-read : (r : Radius) (l : Lens) (top z : ℕ) → radiusTold r ≡ radiusFor l top z
+    → lawfulLens l ≡ true → z ≤ depthTop → r ≡ Pixels (min top (blur l z))
+radius-read r l top z t e h = pixels-told r (min top (blur l z)) (t ∙ in-pixels l top z e h)

@@ -1,10 +1,14 @@
 -- Laws of the shapes' numbers.
-use mathlib.Core.Path.{_≡_, refl}
+use mathlib.Core.Path.{_≡_, refl, ap, sym, _∙_}
 use Prim.Native.Nat.{ℕ, _-_, _≤_, _<_}
+use native.Mathlib.Omega.{arith}
 use lib.Dec.{lit≤}
 use lib.ListN.{List·getD-eq-default}
-use Rattle.kernels.specs.Fixed.{radii, shapeCount}
-use Rattle.kernels.specs.Shape.{Shape, Box, Tent, Triple, Diamond, Hexagon, Octagon, Known, Unknown, numberOf, boxesOf, topOf, countOf, shapes, shapeOf}
+use borrow.Author.Tests.{lt-ltb, le-ltb}
+use Rattle.kernels.specs.Fixed.{radii, shapeCount, accepted, shapeRefused}
+use Rattle.kernels.specs.Told.{Told, told}
+use Rattle.kernels.specs.Shape.{Shape, Box, Tent, Triple, Diamond, Hexagon, Octagon, ShapeRead, Known, Unknown, numberOf, boxesOf, topOf, countOf, shapes, shapeOf, shapeTold, shapeFor}
+use Rattle.kernels.proofs.numbers.Choices.{by-lt}
 
 pub number-le : (s : Shape) → numberOf s ≤ shapeCount - 1
 number-le Box = lit≤ tt
@@ -59,3 +63,29 @@ number-back Triple = refl
 number-back Diamond = refl
 number-back Hexagon = refl
 number-back Octagon = refl
+
+-- WHAT A SHAPE TELLS
+pub shape-above : (n : ℕ) → shapeCount ≤ n → shapeFor n ≡ told shapeRefused 0
+unfolding shapeFor
+shape-above n h = simp (le-ltb n shapeCount h)
+
+shape-in : (n : ℕ) → n < shapeCount → shapeFor n ≡ told accepted n
+unfolding shapeFor
+shape-in n h = simp (lt-ltb n shapeCount h)
+
+known-told : (r : ShapeRead) (n : ℕ) → shapeTold r ≡ told accepted n → r ≡ shapeOf n
+unfolding shapeTold
+known-told (Known s) n e = sym (number-back s) ∙ ap shapeOf (ap (λ (t : Told). t .value) e)
+known-told Unknown n e = absurd (omega (arith, ap (λ (t : Told). t .number) e))
+
+unknown-told : (r : ShapeRead) (n : ℕ) → shapeCount ≤ n → shapeTold r ≡ told shapeRefused 0 → r ≡ shapeOf n
+unfolding shapeTold
+unknown-told (Known s) n h e = absurd (omega (arith, ap (λ (t : Told). t .number) e))
+unknown-told Unknown n h e = sym (shape-past n h)
+
+-- the shape that is read for a number is the number's
+pub shape-read : (r : ShapeRead) (n : ℕ) → shapeTold r ≡ shapeFor n → r ≡ shapeOf n
+shape-read r n e =
+    by-lt n shapeCount
+    (λ h. known-told r n (e ∙ shape-in n h))
+    (λ h. unknown-told r n h (e ∙ shape-above n h))

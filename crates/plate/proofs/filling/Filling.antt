@@ -12,8 +12,8 @@ use Rattle.kernels.specs.Shape.{shapeOf, topUnder}
 use Rattle.kernels.specs.declared.lens.Lens.{Lens}
 use Rattle.kernels.specs.declared.lens.Radius.{Radius}
 use Rattle.kernels.specs.declared.lens.Radius.the-variants.{Pixels}
-use Rattle.kernels.specs.Lens.{lawfulLens, blur, radiusFrom}
-use Rattle.kernels.proofs.lenses.ThinLens.{in-pixels}
+use Rattle.kernels.specs.Lens.{lawfulLens, blur, radiusTold, radiusFor}
+use Rattle.kernels.proofs.lenses.ThinLens.{radius-read}
 use Rattle.plate.specs.Word.{empty, wordOf}
 use Rattle.plate.specs.Lent.{State, stateOf, Lent, sizedAs, Inputs, Sized}
 use Rattle.plate.specs.Refusal.{Refusal, Outcome, Accepted, Refused, layerCheck, fillCheck}
@@ -29,10 +29,10 @@ use Rattle.kernels.specs.Fixed.{depthTop}
 
 -- ONE PIXEL
 -- the radius that a lawful lens gives a lawful depth
-pub radius-is : (l : Lens) (top z r : ℕ) (a : Radius) → lawfulLens l ≡ true → z ≤ depthTop → a ≡ radiusFrom l top z
-    → a ≡ Pixels r → r ≡ min top (blur l z)
+pub radius-is : (l : Lens) (top z r : ℕ) (a : Radius) → lawfulLens l ≡ true → z ≤ depthTop
+    → radiusTold a ≡ radiusFor l top z → a ≡ Pixels r → r ≡ min top (blur l z)
 radius-is l top z r a e h p q =
-    let same : Pixels r ≡ Pixels (min top (blur l z)) = sym q ∙ p ∙ in-pixels l top z e h in
+    let same : Pixels r ≡ Pixels (min top (blur l z)) = sym q ∙ radius-read a l top z p e h in
     cc
 
 -- the pixel at a place, from what the inputs hold there

@@ -4,7 +4,9 @@ use mathlib.Core.Bool.{true}
 use native.Mathlib.Omega.{arith}
 use borrow.Author.Needs.{needs}
 use borrow.Author.Tests.{not-true, not-false}
-use Rattle.kernels.specs.Lens.{lawfulLens, Pixels}
+use Rattle.kernels.specs.Fixed.{accepted}
+use Rattle.kernels.specs.Told.{told}
+use Rattle.kernels.specs.Lens.{lawfulLens, radiusTold}
 use Rattle.kernels.proofs.lenses.ThinLens.{no-lens, no-depth, in-pixels}
 use Rattle.kernels.proofs.lens.radius_from.Statement.{statement}
 use Rattle.kernels.proofs.lens.radius_from.Tie as tie
@@ -16,9 +18,11 @@ lawful-lens-requires : tie.Need-lawful-lens-requires
 lawful-lens-requires c κs = search needs
 
 returns : tie.Need-returns
+unfolding radiusTold
 returns c = sym (no-lens _ _ _ (sym (c .before .lawful-lens .ensures) ∙ not-true _ (c .if1 .taken)))
 
 returns-2 : tie.Need-returns-2
+unfolding radiusTold
 returns-2 c = sym (no-depth _ _ _ (lawful (c .before)) (omega arith))
 
 blurred-requires : tie.Need-blurred-requires
@@ -28,14 +32,16 @@ cast-t8 : tie.Need-cast-t8
 cast-t8 c = search needs
 
 returns-3 : tie.Need-returns-3
+unfolding radiusTold
 returns-3 c =
     rw (in-pixels _ _ _ (lawful (c .before .before .before)) (c .before .before .if2 .left))
-    (ap Pixels (omega (arith, c .before .blurred .ensures)))
+    (ap (told accepted) (omega (arith, c .before .blurred .ensures)))
 
 returns-4 : tie.Need-returns-4
+unfolding radiusTold
 returns-4 c =
     rw (in-pixels _ _ _ (lawful (c .before .before .before)) (c .before .before .if2 .left))
-    (ap Pixels (omega (arith, c .before .blurred .ensures)))
+    (ap (told accepted) (omega (arith, c .before .blurred .ensures)))
 
 pub radius-from-spec : {M : Type 1} → statement M
 radius-from-spec =

@@ -7,6 +7,7 @@ use lib.ListN.{length, getD}
 use borrow.Author.Needs.{needs}
 use Rattle.kernels.specs.declared.shape.Shape.{Shape}
 use Rattle.kernels.specs.declared.shape.ShapeRead.the-variants.{Known, Unknown}
+use Rattle.kernels.proofs.taps.ShapeNumbers.{shape-read}
 use Rattle.plate.specs.Lent.{Sized, sized}
 use Rattle.plate.specs.Word.{Whole, readWord}
 use Rattle.plate.specs.Refusal.{Accepted, putCheck}
@@ -107,7 +108,7 @@ returns-3 : tie.Need-returns-3
 returns-3 c =
     let shaped = c .before .before in
     let known = asked (passed (stored shaped .before .before)) .shape-known in
-    unknown-not _ (sym (c .enum-told3 .given .1) ∙ shaped .shape-of .ensures ∙ known)
+    unknown-not _ (sym (c .enum-told3 .given .1) ∙ shape-read _ _ (shaped .shape-of .ensures) ∙ known)
 
 returns-4 : tie.Need-returns-4
 unfolding putRead putReadBy putOver
@@ -118,7 +119,7 @@ returns-4 c =
     rw (
       checked (passed (old .before .before)),
       read old,
-      sym (shaped .shape-of .ensures) ∙ known .shape .given .1,
+      sym (shape-read _ _ (shaped .shape-of .ensures)) ∙ known .shape .given .1,
     )
 
 pub read-put-spec : {M : Type 1} → statement M

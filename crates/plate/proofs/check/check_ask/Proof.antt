@@ -3,6 +3,7 @@ use mathlib.Core.Path.{_≡_, sym, _∙_}
 use borrow.Author.Needs.{needs}
 use Rattle.kernels.specs.declared.shape.ShapeRead.the-variants.{Known}
 use Rattle.kernels.specs.Shape.{shapeOf}
+use Rattle.kernels.proofs.taps.ShapeNumbers.{shape-read}
 use Rattle.plate.specs.Refusal.{askCheck, placeCheck, shapeCheck, radiusCheck, refuseIf}
 use Rattle.plate.proofs.checks.Conditions.{tests}
 use Rattle.plate.proofs.check.check_ask.Statement.{statement}
@@ -12,7 +13,7 @@ use Rattle.plate.proofs.check.check_ask.Tie as tie
 known : (c : tie.After-known)
     → let asked = c .before .before .before .before .before .before in
     shapeOf (asked .args .ask .shape) ≡ Known (c .known .given .0 .0)
-known c = sym (c .before .before .shape-of .ensures) ∙ c .known .given .1
+known c = sym (shape-read _ _ (c .before .before .shape-of .ensures)) ∙ c .known .given .1
 
 returns : tie.Need-returns
 unfolding askCheck placeCheck shapeCheck radiusCheck refuseIf
@@ -37,7 +38,7 @@ enum-told c = search needs
 
 returns-4 : tie.Need-returns-4
 unfolding askCheck placeCheck shapeCheck radiusCheck refuseIf
-returns-4 c = rw (← c .before .before .shape-of .ensures, c .enum-told .given .1) (search tests)
+returns-4 c = rw (← shape-read _ _ (c .before .before .shape-of .ensures), c .enum-told .given .1) (search tests)
 
 top-under-requires : tie.Need-top-under-requires
 top-under-requires c κs = search needs

@@ -6,7 +6,7 @@ use native.Mathlib.Omega.{arith}
 use borrow.Author.Needs.{needs}
 use Rattle.kernels.specs.Lens.{blur}
 use Rattle.kernels.proofs.taps.Shares.{table-share}
-use Rattle.kernels.proofs.lenses.ThinLens.{in-pixels}
+use Rattle.kernels.proofs.lenses.ThinLens.{radius-read}
 use Rattle.plate.proofs.filling.Filling.{radius-is}
 use Rattle.plate.proofs.layer.fill_pixel.Statement.{statement}
 use Rattle.plate.proofs.layer.fill_pixel.Tie as tie
@@ -33,8 +33,10 @@ returns c =
     let found = c .before in
     let start = found .before .before in
     let a = start .args in
-    let some = in-pixels (a .layer .lens) (a .layer .top) (a .depth) (start .pre .0 .lens-lawful) (start .pre .2 .depth-in) in
-    absurd (⊎-elim (λ q. omega arith) (λ q. omega arith) (rw (found .radius-from .ensures ∙ some) at (c .match .keys2)))
+    let some =
+    radius-read _ (a .layer .lens) (a .layer .top) (a .depth) (found .radius-from .ensures)
+    (start .pre .0 .lens-lawful) (start .pre .2 .depth-in) in
+    absurd (⊎-elim (λ q. omega arith) (λ q. omega arith) (rw some at (c .match .keys2)))
 
 share-in-requires : tie.Need-share-in-requires
 share-in-requires c κs = search needs

@@ -9,6 +9,7 @@ use Rattle.plate.proofs.checks.Scans.{above-found}
 use Rattle.plate.proofs.layer.read_inputs.Statement.{statement}
 use Rattle.plate.proofs.layer.read_inputs.Tie as tie
 use Rattle.kernels.specs.Fixed.{depthTop}
+use Rattle.kernels.proofs.taps.ShapeNumbers.{shape-read}
 
 -- past the values' check and the shape's
 past : (c : tie.After-known-told) (opacities : List ℕ)
@@ -20,7 +21,7 @@ past c opacities =
     let known = c .before in
     let shaped = known .before .before in
     let valued = shaped .before in
-    rw (← valued .before .value-above .ensures, valued .if1 .left, ← shaped .shape-of .ensures, known .known .given .1)
+    rw (← valued .before .value-above .ensures, valued .if1 .left, ← shape-read _ _ (shaped .shape-of .ensures), known .known .given .1)
 
 -- the scan for depths past their top
 deep : (c : tie.After-depth-between)
@@ -53,7 +54,7 @@ returns-2 c =
     λ opacities. rw (
       ← valued .before .value-above .ensures,
       valued .if1 .left,
-      ← shaped .shape-of .ensures,
+      ← shape-read _ _ (shaped .shape-of .ensures),
       c .enum-told .given .1,
     )
 
@@ -97,7 +98,7 @@ returns-5 c =
       ← deep (shallow .before),
       shallow .if3 .left,
       c .layer-of .ensures,
-      ← known .before .before .before .shape-of .ensures,
+      ← shape-read _ _ (known .before .before .before .shape-of .ensures),
       known .before .known .given .1,
     )
 

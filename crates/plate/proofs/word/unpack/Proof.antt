@@ -7,6 +7,7 @@ use borrow.Author.Tests.{le-leb, lt-ltb, le-ltb}
 use lib.Bits.{and-mask}
 use mir.Facts.{fits-mask}
 use Rattle.kernels.specs.declared.shape.ShapeRead.the-variants.{Known, Unknown}
+use Rattle.kernels.proofs.taps.ShapeNumbers.{shape-read}
 use Rattle.plate.specs.Word.{readWord, pixelIn}
 use Rattle.plate.proofs.words.Fields.{low-word}
 use Rattle.plate.proofs.word.unpack.Statement.{statement}
@@ -20,7 +21,7 @@ start c = c .before .before .before .before
 known : (c : tie.After-shape)
     → readWord (start c .args .reach) (start c .args .word)
     ≡ pixelIn (start c .args .reach) (start c .args .word) (Known (c .shape .given .0 .0))
-known c = low-word _ _ _ (omega arith) (sym (c .before .before .shape-of .ensures) ∙ c .shape .given .1)
+known c = low-word _ _ _ (omega arith) (sym (shape-read _ _ (c .before .before .shape-of .ensures)) ∙ c .shape .given .1)
 
 returns : tie.Need-returns
 unfolding readWord
@@ -40,7 +41,7 @@ enum-told c = search needs
 
 returns-2 : tie.Need-returns-2
 returns-2 c =
-    sym (low-word _ _ Unknown (omega arith) (sym (c .before .before .shape-of .ensures) ∙ c .enum-told .given .1))
+    sym (low-word _ _ Unknown (omega arith) (sym (shape-read _ _ (c .before .before .shape-of .ensures)) ∙ c .enum-told .given .1))
 
 cast-radius : tie.Need-cast-radius
 cast-radius c = fits-mask (start (c .before) .args .word / 16777216) 8 tt

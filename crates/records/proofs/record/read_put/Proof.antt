@@ -1,5 +1,6 @@
 -- The numbers are the body's pairs, and the shape is what `shape_of` says.
 use borrow.Author.Needs.{needs}
+use Rattle.kernels.proofs.taps.ShapeNumbers.{shape-read}
 use Rattle.records.proofs.record.read_put.Statement.{statement}
 use Rattle.records.proofs.record.read_put.Tie as tie
 
@@ -48,7 +49,7 @@ returns c =
       c .before .before .before .before .before .size .ensures,
       c .before .before .before .before .size2 .ensures,
       c .before .before .before .two .ensures,
-      ← c .before .before .shape-of .ensures,
+      ← shape-read _ _ (c .before .before .shape-of .ensures),
       c .enum-told .given .1,
     )
 
@@ -64,7 +65,7 @@ returns-2 c =
       c .before .before .before .before .before .before .size .ensures,
       c .before .before .before .before .before .size2 .ensures,
       c .before .before .before .before .two .ensures,
-      ← c .before .before .before .shape-of .ensures,
+      ← shape-read _ _ (c .before .before .before .shape-of .ensures),
       c .before .shape .given .1,
     )
 
