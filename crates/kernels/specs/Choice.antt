@@ -1,6 +1,6 @@
 -- A thing by a test, and a number where a comparison holds.
 use mathlib.Core.Bool.{Bool, true, false}
-use Prim.Native.Nat.{ℕ}
+use Prim.Native.Nat.{ℕ, suc, _+_}
 use lib.Dec.{leb, eqb}
 
 -- the first where the test holds, else the second
@@ -15,3 +15,7 @@ within a b w = pick (leb a b) w 0
 -- w where a is b, else 0
 unfoldable pub same : ℕ → ℕ → ℕ → ℕ
 same a b w = pick (eqb a b) w 0
+
+-- w in the n columns from x0 on, else 0
+unfoldable pub strip : ℕ → ℕ → ℕ → ℕ → ℕ
+strip x0 n x w = within x0 x (within (suc x) (x0 + n) w)

@@ -6,6 +6,8 @@ pub mod Shape
 pub mod Tap
 pub mod Share
 pub mod Mark
+pub mod Facts
 pub mod Rounding
 pub mod Lens
+pub mod Starred
 pub mod code

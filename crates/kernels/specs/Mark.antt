@@ -61,14 +61,24 @@ pub record Run : Type 0 where
 abbrev pub run : ℕ → ℕ → ℕ → Run
 run d u n = record { downs = d; ups = u; columns = n }
 
--- a line from (x, y) on, piece by piece: "A piece has a mark at its start and the opposite one a step past its last column, in
--- the plane of its slope. Pieces of no columns still make both." The next piece starts where that step led.
+-- the row of a piece that starts in row y, i columns on
+abbrev pub runRow : Run → ℕ → ℕ → ℕ
+runRow s y i = y + s .downs * i - s .ups * i
+
+-- the plane of its slope
+abbrev pub slopePlane : Run → ℕ
+slopePlane s = level + s .downs - s .ups
+
+-- a piece from (x, y) on: "A piece has a mark at its start and the opposite one a step past its last column, in the plane of
+-- its slope. Pieces of no columns still make both."
+abbrev pub runMarks : ℕ → ℕ → ℕ → ℕ → Run → List Mark
+runMarks p q x y s =
+    mark (slopePlane s) x y p ∷ mark (slopePlane s) (x + s .columns) (runRow s y (s .columns)) q ∷ []
+
+-- a line from (x, y) on, piece by piece: the next piece starts where the step past the last column led
 unfoldable pub lineMarks : ℕ → ℕ → ℕ → ℕ → List Run → List Mark
 lineMarks p q x y [] = []
-lineMarks p q x y (s ∷ rest) =
-    mark (level + s .downs - s .ups) x y p
-    ∷ mark (level + s .downs - s .ups) (x + s .columns) (y + s .downs * s .columns - s .ups * s .columns) q
-    ∷ lineMarks p q (x + s .columns) (y + s .downs * s .columns - s .ups * s .columns) rest
+lineMarks p q x y (s ∷ rest) = runMarks p q x y s ++ lineMarks p q (x + s .columns) (runRow s y (s .columns)) rest
 
 -- the same pieces turned upside down
 unfoldable pub flipped : List Run → List Run

@@ -43,6 +43,11 @@ unfoldable pub slope : ℕ → ℕ → Plane → Plane
 slope d u m zero y = m 0 y
 slope d u m (suc x) y = m (suc x) y + within d (y + u) (slope d u m x (y + u - d))
 
+-- "summed across and down", n times
+unfoldable pub summed : ℕ → Plane → Plane
+summed zero m = m
+summed (suc n) m = down (across (summed n m))
+
 -- "Third box: summed across and down, added to second; summed again, added to slope 0."
 unfoldable pub chain : Planes → Plane
 chain m = add (m level) (down (across (add (m secondBox) (down (across (m thirdBox))))))

@@ -8,8 +8,9 @@ use lib.ListN.{length}
 use Rattle.kernels.specs.Fixed.{planesEach, level, secondBox, thirdBox, margin}
 use Rattle.kernels.specs.Shape.{Shape, Box, Tent, Triple, Diamond, Hexagon, Octagon, reachOf, countOf}
 use Rattle.kernels.specs.Tap.{half, share}
-use Rattle.kernels.specs.Mark.{Mark, mark, minus, sign, choose, Run, lineMarks, flipped, outlineMarks, marksTo, boxGrid, boxMarks, diamondMarks, hexagonMarks, octagonMarks, tapMarks, scaled, marks}
-use Rattle.kernels.proofs.marking.LineFact.{Walk}
+use Rattle.kernels.specs.Mark.{Mark, mark, minus, sign, choose, Run, runRow, lineMarks, flipped, outlineMarks, marksTo, boxGrid, boxMarks, diamondMarks, hexagonMarks, octagonMarks, tapMarks, scaled, marks}
+use Rattle.kernels.specs.Facts.{Inside, Each, Near, NearFact}
+use Rattle.kernels.proofs.marking.MarkLists.{each-append, each-one, each-to}
 use Rattle.kernels.proofs.marking.Kernel.{twoRuns, Walks, diamond-walks, hexagon-walks, octagon-walks}
 use Rattle.kernels.specs.code.Drawing.{moved}
 
@@ -33,19 +34,6 @@ unfolding marks
 marks-count s r X Y = scaled-length (share s r) (tapMarks s r X Y) ∙ tap-marks-count s r X Y
 
 -- INSIDE THE MARGIN
--- what holds of each mark of a list
-unfoldable pub Each : (Mark → Type 0) → List Mark → Type 0
-Each P [] = Unit
-Each P (m ∷ ms) = P m × Each P ms
-
--- a mark in one of a picture's planes, at most d columns and d rows from (X, Y)
-pub record Near (d X Y : ℕ) (m : Mark) : Type 0 where
-  pub plane-in : m .plane < planesEach
-  pub left-in : X ≤ m .column + d
-  pub right-in : m .column ≤ X + d
-  pub top-in : Y ≤ m .row + d
-  pub bottom-in : m .row ≤ Y + d
-
 scaled-near : (c d X Y : ℕ) (ms : List Mark) → Each (Near d X Y) ms → Each (Near d X Y) (scaled c ms)
 unfolding Each scaled
 scaled-near c d X Y [] h = tt
@@ -59,21 +47,6 @@ scaled-near c d X Y (m ∷ ms) h = (
   },
   scaled-near c d X Y ms (h .1),
 )
-
-each-append : (P : Mark → Type 0) (ms ns : List Mark) → Each P ms → Each P ns → Each P (ms ++ ns)
-unfolding Each
-each-append P [] ns p q = q
-each-append P (m ∷ ms) ns p q = (p .0, each-append P ms ns (p .1) q)
-
-each-one : (P : Mark → Type 0) (m : Mark) → P m → Each P (m ∷ [])
-unfolding Each
-each-one P m h = (h, tt)
-
-each-to : (P : Mark → Type 0) (f : ℕ → List Mark) (n : ℕ) → ((i : ℕ) → i < n → Each P (f i)) → Each P (marksTo f n)
-unfolding marksTo
-each-to P f zero h = unfold Each in tt
-each-to P f (suc n) h =
-    each-append P (marksTo f n) (f n) (each-to P f n (λ i g. h i (omega arith))) (h n (omega arith))
 
 boxes-near : (p n r X Y : ℕ) → p < planesEach → n ≤ margin → n * r ≤ X → n * r ≤ Y
     → Each (Near (n * r + margin) X Y) (boxMarks p n r X Y)
@@ -111,8 +84,7 @@ unfolding Each
 near-more d e X Y [] h n = tt
 near-more d e X Y (m ∷ ms) h n = (omega arith, near-more d e X Y ms h (n .1))
 
-pub marks-near : (s : Shape) (r R X Y : ℕ) → reachOf s r ≤ R → R + margin ≤ X → R + margin ≤ Y
-    → Each (Near (R + margin) X Y) (marks s r X Y)
+pub marks-near : NearFact
 unfolding marks
 marks-near s r R X Y h p q =
     scaled-near (share s r) (R + margin) X Y (tapMarks s r X Y)
@@ -143,15 +115,15 @@ grid-moved a b p n l x y =
     moved-to a b _ _ (suc n) (λ i. moved-to a b _ _ (suc n) (λ j.
     mark-moved a b p x (i * l) y (j * l) (sign (i + j) * (choose n i * choose n j))))
 
-line-moved : (a b p q x y : ℕ) (runs : List Run) → Walk runs y
+line-moved : (a b p q x y : ℕ) (runs : List Run) → Inside runs y
     → lineMarks p q (x + a) (y + b) runs ≡ moved a b (lineMarks p q x y runs)
-unfolding lineMarks moved Walk
+unfolding lineMarks moved Inside
 line-moved a b p q x y [] w = refl
 line-moved a b p q x y (s ∷ rest) w =
-    let g = w .1 in
+    let g = w .0 in
     let e : x + a + s .columns ≡ x + s .columns + a = omega arith in
-    let f : y + b + s .downs * s .columns - s .ups * s .columns ≡ y + s .downs * s .columns - s .ups * s .columns + b = omega arith in
-    rw (e, f, line-moved a b p q (x + s .columns) (y + s .downs * s .columns - s .ups * s .columns) rest (w .2))
+    let f : runRow s (y + b) (s .columns) ≡ runRow s y (s .columns) + b = omega arith in
+    rw (e, f, line-moved a b p q (x + s .columns) (runRow s y (s .columns)) rest (w .1))
 
 outline-moved : (a b r h : ℕ) (top : List Run) (X Y : ℕ) → r ≤ X → h ≤ Y → Walks h top Y
     → outlineMarks r h top (X + a) (Y + b) ≡ moved a b (outlineMarks r h top X Y)

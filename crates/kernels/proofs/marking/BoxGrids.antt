@@ -1,18 +1,20 @@
--- The marks of n boxes, one by one: along an axis (-1)^i times n over i, and their products over both axes.
+-- THE BOX FACT: the marks of n boxes, one by one, along an axis (-1)^i times n over i, and their products over both axes.
 use mathlib.Core.Path.{_≡_, refl, ap, sym, _∙_}
 use mathlib.Core.List.{[], _∷_}
-use Prim.Native.Nat.{ℕ, zero, suc, _+_, _*_, _-_, _^_, _%_, _<_}
+use Prim.Native.Nat.{ℕ, zero, suc, _+_, _*_, _-_, _^_, _%_, _≤_, _<_}
 use native.Mathlib.Omega.{arith}
 use native.Mathlib.Nat.{add-mul-mod-self-left}
 use Rattle.kernels.specs.Choice.{same}
-use Rattle.kernels.specs.Sum.{sum, Row, finish}
-use Rattle.kernels.specs.Tap.{shift, convolved, one}
-use Rattle.kernels.specs.Mark.{Mark, mark, minus, sign, choose, marksTo, boxGrid, planesOf}
-use Rattle.kernels.proofs.numbers.Choices.{by-eq, if-within, same-yes, same-no, same-as, same-mul}
+use Rattle.kernels.specs.Sum.{sum, dist, Row, Planes, summed, finish}
+use Rattle.kernels.specs.Tap.{shift, convolved, one, boxTap}
+use Rattle.kernels.specs.Mark.{Mark, mark, minus, sign, choose, marksTo, boxGrid, boxMarks, planesOf}
+use Rattle.kernels.specs.Facts.{BoxFact, Each}
+use Rattle.kernels.proofs.numbers.Choices.{if-within, same-yes, same-no, same-as, same-mul}
 use Rattle.kernels.proofs.sums.FiniteSums.{sum-ext, sum-add, sum-mul, sum-zero, sum-front, sum-product, cong-mul, sum-cong}
-use Rattle.kernels.proofs.sums.BoxSums.{scale, mix, rowMarks, box-fact, boxes-mark}
-use Rattle.kernels.proofs.sums.PlaneSums.{_≈²_, only, product, both-product, product-cong, finish-cong, Boxed, finish-boxes}
-use Rattle.kernels.proofs.marking.MarkLists.{planes-to}
+use Rattle.kernels.proofs.sums.BoxSums.{scale, mix, rowMarks, row-boxes, boxes-mark}
+use Rattle.kernels.proofs.sums.PlaneSums.{_≈²_, product, summed-product, product-cong, summed-cong, Boxed, finish-boxes}
+use Rattle.kernels.proofs.taps.TapForms.{box-far, taps-dist}
+use Rattle.kernels.proofs.marking.MarkLists.{planes-to, each-one, each-to, alone}
 
 -- c to the i-th
 unfoldable power : ℕ → ℕ → ℕ
@@ -136,35 +138,59 @@ grid-cell n l s t x y =
     )
     (sum-cong _ _ (λ i. sum-cong _ _ (λ j. mark-product n l s t x y i j) (suc n)) (suc n))
 
-grid-planes : (c n l s t p : ℕ)
-    → planesOf (boxGrid c n l s t) p
-    ≈² only c (product (rowMarks (2 ^ 64 - 1) n l (λ x. same x s 1)) (rowMarks (2 ^ 64 - 1) n l (λ y. same y t 1))) p
-unfolding boxGrid only
-grid-planes c n l s t p x y =
+-- the grid in its own plane
+grid-plane : (c n l s t : ℕ)
+    → planesOf (boxGrid c n l s t) c
+    ≈² product (rowMarks (2 ^ 64 - 1) n l (λ x. same x s 1)) (rowMarks (2 ^ 64 - 1) n l (λ y. same y t 1))
+unfolding boxGrid
+grid-plane c n l s t x y =
     let cell : ℕ → ℕ → ℕ = λ i j. same x (s + i * l) (same y (t + j * l) (sign (i + j) * (choose n i * choose n j))) in
     let made : ℕ → ℕ → Mark = λ i j. mark c (s + i * l) (t + j * l) (sign (i + j) * (choose n i * choose n j)) in
-    let each : planesOf (marksTo (λ i. marksTo (λ j. made i j ∷ []) (suc n)) (suc n)) p x y
-    ≡ sum (λ i. sum (λ j. same p c (cell i j)) (suc n)) (suc n) =
-    planes-to (λ i. marksTo (λ j. made i j ∷ []) (suc n)) (suc n) p x y
-    ∙ sum-ext _ _ (λ i. planes-to (λ j. made i j ∷ []) (suc n) p x y ∙ sum-ext _ _ (λ j. one-mark (made i j) p x y) (suc n)) (suc n) in
-    ap (λ (z : ℕ). z % 2 ^ 64) each
-    ∙ by-eq p c
-    (λ e. rw (same-yes p c (product (rowMarks (2 ^ 64 - 1) n l (λ x. same x s 1)) (rowMarks (2 ^ 64 - 1) n l (λ y. same y t 1)) x y) e)
-    (ap (λ (z : ℕ). z % 2 ^ 64) (sum-ext _ _ (λ i. sum-ext _ _ (λ j. same-yes p c (cell i j) e) (suc n)) (suc n))
-    ∙ grid-cell n l s t x y))
-    (λ e. rw (same-no p c (product (rowMarks (2 ^ 64 - 1) n l (λ x. same x s 1)) (rowMarks (2 ^ 64 - 1) n l (λ y. same y t 1)) x y) e)
-    (ap (λ (z : ℕ). z % 2 ^ 64)
-    (sum-ext _ (λ i. 0) (λ i. sum-ext _ (λ j. 0) (λ j. same-no p c (cell i j) e) (suc n) ∙ sum-zero (suc n)) (suc n)
-    ∙ sum-zero (suc n))))
+    let each : planesOf (marksTo (λ i. marksTo (λ j. made i j ∷ []) (suc n)) (suc n)) c x y
+    ≡ sum (λ i. sum (λ j. cell i j) (suc n)) (suc n) =
+    planes-to (λ i. marksTo (λ j. made i j ∷ []) (suc n)) (suc n) c x y
+    ∙ sum-ext _ _ (λ i. planes-to (λ j. made i j ∷ []) (suc n) c x y
+    ∙ sum-ext _ _ (λ j. one-mark (made i j) c x y ∙ same-yes c c (cell i j) refl) (suc n)) (suc n) in
+    ap (λ (z : ℕ). z % 2 ^ 64) each ∙ grid-cell n l s t x y
 
--- THE MARKS OF BOXES, finished: on each axis the boxes that start at the first mark
-pub grid-fact : {n c : ℕ} → Boxed n c → (l s t x y : ℕ)
-    → finish (planesOf (boxGrid c n l s t)) x y % 2 ^ 64 ≡ shift s (convolved n l one) x * shift t (convolved n l one) y % 2 ^ 64
-grid-fact {n} {c} b l s t x y =
+-- summed n times, it is on each axis the boxes that start at the first mark
+grid-summed : (c n l s t x y : ℕ)
+    → summed n (planesOf (boxGrid c n l s t) c) x y % 2 ^ 64 ≡ shift s (convolved n l one) x * shift t (convolved n l one) y % 2 ^ 64
+grid-summed c n l s t x y =
     let f = rowMarks (2 ^ 64 - 1) n l (λ x. same x s 1) in
     let g = rowMarks (2 ^ 64 - 1) n l (λ y. same y t 1) in
-    finish-cong _ _ (grid-planes c n l s t) x y
-    ∙ rw (finish-boxes b (product f g), both-product n f g)
-    (product-cong _ _ _ _ (box-fact n l (λ x. same x s 1)) (box-fact n l (λ y. same y t 1)) x y
+    summed-cong n _ _ (grid-plane c n l s t) x y
+    ∙ rw (summed-product n f g)
+    (product-cong _ _ _ _ (row-boxes n l (λ x. same x s 1)) (row-boxes n l (λ y. same y t 1)) x y
     ∙ rw (boxes-mark n l s 1, boxes-mark n l t 1)
     (ap (λ (z : ℕ). z % 2 ^ 64) (unfold product scale in (omega arith))))
+
+-- the boxes that start n r before the middle, by the distance from the middle
+box-row : (n r X x : ℕ) → n * r ≤ X → shift (X - n * r) (convolved n (2 * r + 1) one) x ≡ boxTap n r (dist x X)
+unfolding shift
+box-row n r X x h =
+    if-within _ _ _ _
+    (λ g. taps-dist n r (x - (X - n * r)) ∙ ap (boxTap n r) (centred (n * r) X x h g))
+    (λ g. sym (box-far n r (dist x X) (omega arith)))
+  where
+    centred : (m X x : ℕ) → m ≤ X → X - m ≤ x → dist (x - (X - m)) m ≡ dist x X
+    centred m X x h g = omega arith
+
+-- THE BOX FACT
+pub box-fact : BoxFact
+unfolding boxMarks
+box-fact p n r X Y x y g h =
+    grid-summed p n (2 * r + 1) (X - n * r) (Y - n * r) x y ∙ rw (box-row n r X x g, box-row n r Y y h)
+
+-- the marks of boxes lie in one plane
+boxes-alone : (p n r X Y : ℕ) → Each (λ m. m .plane ≡ p) (boxMarks p n r X Y)
+unfolding boxMarks boxGrid
+boxes-alone p n r X Y =
+    each-to _ _ (suc n) (λ i g. each-to _ _ (suc n) (λ j h. each-one _ _ refl))
+
+-- and where that is the plane that is summed n times, they are finished to the boxes convolved
+pub box-kernel : {n c : ℕ} → Boxed n c → (r X Y x y : ℕ) → n * r ≤ X → n * r ≤ Y
+    → finish (planesOf (boxMarks c n r X Y)) x y % 2 ^ 64 ≡ boxTap n r (dist x X) * boxTap n r (dist y Y) % 2 ^ 64
+box-kernel {n} {c} b r X Y x y p q =
+    ap (λ (m : Planes). finish m x y % 2 ^ 64) (alone c (boxMarks c n r X Y) (boxes-alone c n r X Y))
+    ∙ rw (finish-boxes b (planesOf (boxMarks c n r X Y) c)) (box-fact c n r X Y x y p q)

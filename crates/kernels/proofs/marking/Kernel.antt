@@ -6,34 +6,17 @@ use native.Mathlib.Omega.{arith}
 use native.Mathlib.Nat.{mul-le-mul-left, le-of-lt}
 use Rattle.kernels.specs.Sum.{dist, finish}
 use Rattle.kernels.specs.Shape.{Shape, Box, Tent, Triple, Diamond, Hexagon, Octagon, reachOf}
-use Rattle.kernels.specs.Tap.{shift, convolved, one, boxTap, half, tap, octagonTap, share, weight}
-use Rattle.kernels.specs.Mark.{Run, run, flipped, boxMarks, diamondMarks, hexagonMarks, octagonMarks, tapMarks, scaled, marks, planesOf}
-use Rattle.kernels.proofs.numbers.Choices.{by-lt, if-within}
+use Rattle.kernels.specs.Tap.{half, tap, octagonTap, share, weight}
+use Rattle.kernels.specs.Mark.{Run, run, flipped, diamondMarks, hexagonMarks, octagonMarks, tapMarks, scaled, marks, planesOf}
+use Rattle.kernels.specs.Facts.{columnsOf, rowAt, Inside, KernelFact}
+use Rattle.kernels.proofs.numbers.Choices.{by-lt}
 use Rattle.kernels.proofs.sums.FiniteSums.{cong-mul}
-use Rattle.kernels.proofs.sums.PlaneSums.{up2, up1, up0, down1, down2, Boxed, first, second, third}
-use Rattle.kernels.proofs.marking.BoxGrids.{grid-fact}
-use Rattle.kernels.proofs.marking.LineFact.{columnsOf, rowAt, row-first, row-rest, Walk}
+use Rattle.kernels.proofs.sums.PlaneSums.{up2, up1, up0, down1, down2, first, second, third}
+use Rattle.kernels.proofs.marking.BoxGrids.{box-kernel}
+use Rattle.kernels.proofs.marking.LineFact.{row-first, row-rest, Sloping}
 use Rattle.kernels.proofs.marking.MarkLists.{finish-scaled}
-use Rattle.kernels.proofs.taps.TapForms.{box-far, taps-dist, box-tap, columnTap, diamondHeight, hexagonHeight, octagonHeight, diamond-columns, hexagon-columns, octagon-columns}
+use Rattle.kernels.proofs.taps.TapForms.{box-tap, columnTap, diamondHeight, hexagonHeight, octagonHeight, diamond-columns, hexagon-columns, octagon-columns}
 use Rattle.kernels.proofs.marking.Outlines.{outline-fact}
-
--- BOXES
--- the boxes that start n r before the middle, by the distance from the middle
-box-row : (n r X x : ℕ) → n * r ≤ X → shift (X - n * r) (convolved n (2 * r + 1) one) x ≡ boxTap n r (dist x X)
-unfolding shift
-box-row n r X x h =
-    if-within _ _ _ _
-    (λ g. taps-dist n r (x - (X - n * r)) ∙ ap (boxTap n r) (centred (n * r) X x h g))
-    (λ g. sym (box-far n r (dist x X) (omega arith)))
-  where
-    centred : (m X x : ℕ) → m ≤ X → X - m ≤ x → dist (x - (X - m)) m ≡ dist x X
-    centred m X x h g = omega arith
-
-box-kernel : {n c : ℕ} → Boxed n c → (r X Y x y : ℕ) → n * r ≤ X → n * r ≤ Y
-    → finish (planesOf (boxMarks c n r X Y)) x y % 2 ^ 64 ≡ boxTap n r (dist x X) * boxTap n r (dist y Y) % 2 ^ 64
-unfolding boxMarks
-box-kernel {n} b r X Y x y p q =
-    grid-fact b (2 * r + 1) (X - n * r) (Y - n * r) x y ∙ rw (box-row n r X x p, box-row n r Y y q)
 
 -- SHAPES 3 TO 5: the row of the top line is the half height above the middle
 abbrev pub twoRuns : ℕ → List Run
@@ -41,11 +24,11 @@ twoRuns r = run 0 1 r ∷ run 1 0 (r + 1) ∷ []
 
 -- both lines of a kernel end inside the plane
 abbrev pub Walks : ℕ → List Run → ℕ → Type 0
-Walks h top Y = Walk top (Y - h) × Walk (flipped top) (Y + h + 1)
+Walks h top Y = Inside top (Y - h) × Inside (flipped top) (Y + h + 1)
 
 pub diamond-walks : (r Y : ℕ) → r + 1 ≤ Y → Walks 0 (twoRuns r) Y
-unfolding Walk flipped
-diamond-walks r Y q = ((up1, omega arith, (down1, omega arith, tt)), (down1, omega arith, (up1, omega arith, tt)))
+unfolding Inside flipped
+diamond-walks r Y q = ((omega arith, (omega arith, tt)), (omega arith, (omega arith, tt)))
 
 diamond-kernel : (r X Y x y : ℕ) → r ≤ X → r + 1 ≤ Y
     → finish (planesOf (diamondMarks r X Y)) x y % 2 ^ 64 ≡ columnTap (diamondHeight r) r (dist x X) (dist y Y) % 2 ^ 64
@@ -53,7 +36,8 @@ unfolding diamondMarks
 diamond-kernel r X Y x y p q =
     let fall = run 1 0 (r + 1) in
     let w = diamond-walks r Y q in
-    outline-fact r 0 (twoRuns r) (diamondHeight r) X Y p (omega arith) (unfold columnsOf in (omega arith)) (w .0) (w .1)
+    outline-fact r 0 (twoRuns r) (diamondHeight r) X Y p (omega arith) (unfold columnsOf in (omega arith))
+    (unfold Sloping in (up1, (down1, tt))) (w .0) (w .1)
     (λ i g. by-lt i r
     (λ k. rw (row-first (run 0 1 r) (fall ∷ []) (Y - 0) i k) (omega arith))
     (λ k. rw (
@@ -100,10 +84,10 @@ hexagon-height : (r t d : ℕ) → min (2 * t) (2 * (r - d)) ≡ 2 * min t (r - 
 hexagon-height r t d = omega arith
 
 pub hexagon-walks : (r t Y : ℕ) → 2 * t ≤ r → r + 1 ≤ Y → Walks 0 (threeRuns 2 t (2 * (r - t))) Y
-unfolding Walk flipped
+unfolding Inside flipped
 hexagon-walks r t Y h q = (
-  (up2, omega arith, (up0, omega arith, (down2, omega arith, tt))),
-  (down2, omega arith, (up0, omega arith, (up2, omega arith, tt))),
+  (omega arith, (omega arith, (omega arith, tt))),
+  (omega arith, (omega arith, (omega arith, tt))),
 )
 
 hexagon-kernel : (r X Y x y : ℕ) → r ≤ X → r + 1 ≤ Y
@@ -113,7 +97,8 @@ hexagon-kernel r X Y x y p q =
     let t = half r in
     let b = 2 * (r - t) in
     let w = hexagon-walks r t Y (omega arith) q in
-    outline-fact r 0 (threeRuns 2 t b) (hexagonHeight r) X Y p (omega arith) (unfold columnsOf in (omega arith)) (w .0) (w .1)
+    outline-fact r 0 (threeRuns 2 t b) (hexagonHeight r) X Y p (omega arith) (unfold columnsOf in (omega arith))
+    (unfold Sloping in (up2, (up0, (down2, tt)))) (w .0) (w .1)
     (λ i g. rw (hexagon-height r t (dist i r))
     (three-runs-rows 2 t b (Y - 0) i (min t (r - dist i r)) (omega arith) (omega arith)
     (nearer r t i (t + b + t) g (omega arith)) ∙ omega arith))
@@ -129,10 +114,10 @@ dist-le : (r i : ℕ) → i ≤ 2 * r → dist i r ≤ r
 dist-le r i h = omega arith
 
 pub octagon-walks : (r t Y : ℕ) → t ≤ r → r + 1 ≤ Y → Walks t (threeRuns 1 (r - t) (2 * t)) Y
-unfolding Walk flipped
+unfolding Inside flipped
 octagon-walks r t Y h q = (
-  (up1, omega arith, (up0, omega arith, (down1, omega arith, tt))),
-  (down1, omega arith, (up0, omega arith, (up1, omega arith, tt))),
+  (omega arith, (omega arith, (omega arith, tt))),
+  (omega arith, (omega arith, (omega arith, tt))),
 )
 
 -- for every t from 0 to r
@@ -143,7 +128,7 @@ octagon-kernel r t X Y x y s p q =
     let a = r - t in
     let w = octagon-walks r t Y s q in
     outline-fact r t (threeRuns 1 a (2 * t)) (octagonHeight r t) X Y p (omega arith)
-    (unfold columnsOf in (omega arith)) (w .0) (w .1)
+    (unfold columnsOf in (omega arith)) (unfold Sloping in (up1, (up0, (down1, tt)))) (w .0) (w .1)
     (λ i g. rw (octagon-height r t (dist i r) s (dist-le r i g)) (add-back _ t _ Y (omega arith)
     (three-runs-rows 1 a (2 * t) (Y - t) i (min a (r - dist i r)) (omega arith) (omega arith)
     (nearer r a i (a + 2 * t + a) g (omega arith)))))
@@ -168,8 +153,7 @@ tap-kernel Octagon r X Y x y p q =
     unfold tap in (octagon-kernel r (half r) X Y x y (omega arith) (omega arith) (omega arith))
 
 -- THE KERNEL: the finished sum of its marks times w is w times its weight, in every cell
-pub kernel : (s : Shape) (r w X Y x y : ℕ) → reachOf s r ≤ X → reachOf s r + 1 ≤ Y
-    → finish (planesOf (scaled w (marks s r X Y))) x y % 2 ^ 64 ≡ w * weight s r (dist x X) (dist y Y) % 2 ^ 64
+pub kernel : KernelFact
 unfolding marks weight
 kernel s r w X Y x y p q =
     rw (finish-scaled w (scaled (share s r) (tapMarks s r X Y)) x y, finish-scaled (share s r) (tapMarks s r X Y) x y)

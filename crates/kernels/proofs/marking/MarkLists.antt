@@ -1,14 +1,33 @@
--- Lists of marks, finished: one after the other, none, and each some times over.
-use mathlib.Core.Path.{_≡_, refl, ap, _∙_, fun-ext}
+-- Lists of marks: what holds of each, their planes and these finished, one after the other, none, in one plane alone, and each
+-- some times over.
+use mathlib.Core.Path.{_≡_, refl, ap, sym, _∙_, fun-ext}
 use mathlib.Core.List.{List, [], _∷_, _++_}
-use Prim.Native.Nat.{ℕ, zero, suc, _+_, _*_}
+use Prim.Native.Nat.{ℕ, zero, suc, _+_, _*_, _<_}
 use native.Mathlib.Omega.{arith}
 use Rattle.kernels.specs.Choice.{same}
 use Rattle.kernels.specs.Sum.{sum, Plane, Planes, add, finish}
 use Rattle.kernels.specs.Mark.{Mark, marksTo, scaled, planesOf}
-use Rattle.kernels.proofs.numbers.Choices.{same-mul}
-use Rattle.kernels.proofs.sums.PlaneSums.{times, adds, finish-add, finish-times}
+use Rattle.kernels.specs.Facts.{Each}
+use Rattle.kernels.proofs.numbers.Choices.{if-same, same-yes, same-add, same-mul}
+use Rattle.kernels.proofs.sums.PlaneSums.{times, adds, only, finish-add, finish-times}
 
+-- WHAT HOLDS OF EACH
+pub each-append : (P : Mark → Type 0) (ms ns : List Mark) → Each P ms → Each P ns → Each P (ms ++ ns)
+unfolding Each
+each-append P [] ns p q = q
+each-append P (m ∷ ms) ns p q = (p .0, each-append P ms ns (p .1) q)
+
+pub each-one : (P : Mark → Type 0) (m : Mark) → P m → Each P (m ∷ [])
+unfolding Each
+each-one P m h = (h, tt)
+
+pub each-to : (P : Mark → Type 0) (f : ℕ → List Mark) (n : ℕ) → ((i : ℕ) → i < n → Each P (f i)) → Each P (marksTo f n)
+unfolding marksTo
+each-to P f zero h = unfold Each in tt
+each-to P f (suc n) h =
+    each-append P (marksTo f n) (f n) (each-to P f n (λ i g. h i (omega arith))) (h n (omega arith))
+
+-- THEIR PLANES
 pub append-at : (ms ns : List Mark) (p x y : ℕ) → planesOf (ms ++ ns) p x y ≡ planesOf ms p x y + planesOf ns p x y
 unfolding planesOf
 append-at [] ns p x y = omega arith
@@ -38,6 +57,17 @@ pub finish-to : (f : ℕ → List Mark) (n x y : ℕ) → finish (planesOf (mark
 unfolding marksTo sum
 finish-to f zero x y = finish-none x y
 finish-to f (suc n) x y = rw (finish-append (marksTo f n) (f n) x y, finish-to f n x y)
+
+-- marks that all lie in plane c
+alone-at : (c : ℕ) (ms : List Mark) → Each (λ m. m .plane ≡ c) ms → (p x y : ℕ) → planesOf ms p x y ≡ only c (planesOf ms c) p x y
+unfolding planesOf only Each
+alone-at c [] h p x y = sym (if-same p c 0 0 (λ e. refl) (λ e. refl))
+alone-at c (m ∷ ms) h p x y =
+    let v = same x (m .column) (same y (m .row) (m .coefficient)) in
+    rw (h .0, alone-at c ms (h .1) p x y, same-yes c c v refl) (sym (same-add p c v (planesOf ms c x y)))
+
+pub alone : (c : ℕ) (ms : List Mark) → Each (λ m. m .plane ≡ c) ms → planesOf ms ≡ only c (planesOf ms c)
+alone c ms h = fun-ext (λ p. fun-ext (λ x. fun-ext (λ y. alone-at c ms h p x y)))
 
 scaled-at : (c : ℕ) (ms : List Mark) (p x y : ℕ) → planesOf (scaled c ms) p x y ≡ c * planesOf ms p x y
 unfolding planesOf scaled

@@ -6,10 +6,13 @@ use native.Mathlib.Omega.{arith}
 use Rattle.kernels.specs.Choice.{within}
 use Rattle.kernels.specs.Sum.{dist, finish}
 use Rattle.kernels.specs.Mark.{Run, run, lineMarks, outlineMarks, flipped, minus, planesOf}
-use Rattle.kernels.proofs.numbers.Choices.{by-lt, within-yes, within-no}
+use Rattle.kernels.specs.Facts.{columnsOf, rowAt, Inside}
+use Rattle.kernels.proofs.numbers.Choices.{by-lt, within-yes, within-no, strip-in, strip-left, strip-right}
 use Rattle.kernels.proofs.sums.FiniteSums.{cong-add}
 use Rattle.kernels.proofs.taps.TapForms.{columnTap}
-use Rattle.kernels.proofs.marking.LineFact.{stays, strip-in, strip-left, strip-right, columnsOf, rowAt, row-first, row-rest, Walk, line-fact}
+use Rattle.kernels.proofs.sums.SlopeSums.{stays}
+use Rattle.kernels.proofs.sums.PlaneSums.{Sloped, up2, up1, up0, down1, down2}
+use Rattle.kernels.proofs.marking.LineFact.{row-first, row-rest, Sloping, line-finished}
 use Rattle.kernels.proofs.marking.MarkLists.{finish-append}
 
 -- THE TWO LINES
@@ -18,18 +21,31 @@ unfolding flipped columnsOf
 flipped-columns [] = refl
 flipped-columns (s ∷ rest) = ap (λ (n : ℕ). s .columns + n) (flipped-columns rest)
 
+-- and its slopes have planes, as the line's have
+turned : {d u : ℕ} → Sloped d u → Sloped u d
+turned up2 = down2
+turned up1 = down1
+turned up0 = up0
+turned down1 = up1
+turned down2 = up2
+
+flipped-sloping : (runs : List Run) → Sloping runs → Sloping (flipped runs)
+unfolding flipped Sloping
+flipped-sloping [] h = tt
+flipped-sloping (s ∷ rest) h = (turned (h .0), flipped-sloping rest (h .1))
+
 -- a line and the same line turned upside down keep the same middle
-mirror : (runs : List Run) (t b i : ℕ) → Walk runs t → Walk (flipped runs) b → rowAt runs t i + rowAt (flipped runs) b i ≡ t + b
-unfolding flipped Walk
+mirror : (runs : List Run) (t b i : ℕ) → Inside runs t → Inside (flipped runs) b → rowAt runs t i + rowAt (flipped runs) b i ≡ t + b
+unfolding flipped Inside
 mirror [] t b i v w = unfold rowAt in refl
 mirror (s ∷ rest) t b i v w =
     by-lt i (s .columns)
     (λ g.
-    let p = stays (v .0) t (s .columns) i (v .1) (omega arith) in
-    let q = stays (w .0) b (s .columns) i (w .1) (omega arith) in
+    let p = stays (s .downs) (s .ups) t (s .columns) i (v .0) (omega arith) in
+    let q = stays (s .ups) (s .downs) b (s .columns) i (w .0) (omega arith) in
     rw (row-first s rest t i g, row-first (run (s .ups) (s .downs) (s .columns)) (flipped rest) b i g) (omega arith))
     (λ g. rw (row-rest s rest t i g, row-rest (run (s .ups) (s .downs) (s .columns)) (flipped rest) b i g)
-    (mirror rest _ _ (i - s .columns) (v .2) (w .2) ∙ omega (arith, v .1, w .1)))
+    (mirror rest _ _ (i - s .columns) (v .1) (w .1) ∙ omega (arith, v .0, w .0)))
 
 -- a column whose top line is H above the middle and whose bottom line is a step past H below it
 column-between : (Y H t b y : ℕ) → t + H ≡ Y → t + b ≡ 2 * Y + 1
@@ -43,11 +59,11 @@ column-between Y H t b y p q =
     (λ k. rw (within-yes t y 1, within-yes b y (minus 1), within-no (dist y Y) H 1 (omega arith))))
 
 pub outline-fact : (r h : ℕ) (top : List Run) (H : ℕ → ℕ) (X Y : ℕ) → r ≤ X → h ≤ Y
-    → columnsOf top ≡ 2 * r + 1 → Walk top (Y - h) → Walk (flipped top) (Y + h + 1)
+    → columnsOf top ≡ 2 * r + 1 → Sloping top → Inside top (Y - h) → Inside (flipped top) (Y + h + 1)
     → ((i : ℕ) → i ≤ 2 * r → rowAt top (Y - h) i + H (dist i r) ≡ Y)
     → (x y : ℕ) → finish (planesOf (outlineMarks r h top X Y)) x y % 2 ^ 64 ≡ columnTap H r (dist x X) (dist y Y) % 2 ^ 64
 unfolding outlineMarks columnTap
-outline-fact r h top H X Y p q n v w row x y =
+outline-fact r h top H X Y p q n z v w row x y =
     let one : 1 + minus 1 ≡ 2 ^ 64 * 1 = unfold minus in refl in
     let other : minus 1 + 1 ≡ 2 ^ 64 * 1 = unfold minus in refl in
     let t = rowAt top (Y - h) (x - (X - r)) in
@@ -55,8 +71,8 @@ outline-fact r h top H X Y p q n v w row x y =
     let n' = flipped-columns top ∙ n in
     ap (λ (m : ℕ). m % 2 ^ 64) (finish-append (lineMarks 1 (minus 1) (X - r) (Y - h) top) _ x y)
     ∙ cong-add _ _ _ _
-    (line-fact 1 (minus 1) 1 (X - r) (Y - h) top one v x y)
-    (line-fact (minus 1) 1 1 (X - r) (Y + h + 1) (flipped top) other w x y)
+    (line-finished 1 (minus 1) 1 (X - r) (Y - h) top x y one z v)
+    (line-finished (minus 1) 1 1 (X - r) (Y + h + 1) (flipped top) x y other (flipped-sloping top z) w)
     ∙ rw (n, n') (by-lt x (X - r)
     (λ g. rw (
       strip-left (X - r) (2 * r + 1) x (within t y 1) g,

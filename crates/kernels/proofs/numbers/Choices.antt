@@ -1,11 +1,11 @@
--- Laws of `within` and `same`: how an equation with one is proved, once for each answer of its test.
+-- Laws of `within`, `same` and `strip`: how an equation with one is proved, once for each answer of its test.
 use mathlib.Core.Path.{_≡_, refl, sym, _∙_}
 use mathlib.Core.Bool.{Bool, true, false}
-use Prim.Native.Nat.{ℕ, _+_, _*_, _≤_, _<_}
+use Prim.Native.Nat.{ℕ, suc, _+_, _*_, _≤_, _<_}
 use native.Mathlib.Omega.{arith}
 use lib.Dec.{ltb, leb, eqb}
 use borrow.Author.Tests.{ltb-true, ltb-false, leb-true, leb-false, eqb-true, eqb-false}
-use Rattle.kernels.specs.Choice.{pick, within, same}
+use Rattle.kernels.specs.Choice.{pick, within, same, strip}
 
 -- a proof by two cases
 pub by-test : {P : Type 0} (t : Bool) → (t ≡ true → P) → (t ≡ false → P) → P
@@ -67,3 +67,15 @@ same-mul c a b w =
     by-eq a b
     (λ e. same-yes a b (c * w) e ∙ rw (same-yes a b w e))
     (λ n. same-no a b (c * w) n ∙ rw (same-no a b w n) (omega arith))
+
+pub strip-in : (x0 n x v : ℕ) → x0 ≤ x → x < x0 + n → strip x0 n x v ≡ v
+unfolding strip
+strip-in x0 n x v p q = rw (within-yes x0 x, within-yes (suc x) (x0 + n))
+
+pub strip-left : (x0 n x v : ℕ) → x < x0 → strip x0 n x v ≡ 0
+unfolding strip
+strip-left x0 n x v p = within-no x0 x _ p
+
+pub strip-right : (x0 n x v : ℕ) → x0 + n ≤ x → strip x0 n x v ≡ 0
+unfolding strip
+strip-right x0 n x v p = if-within _ _ _ _ (λ g. within-no (suc x) (x0 + n) v (omega arith)) (λ g. refl)

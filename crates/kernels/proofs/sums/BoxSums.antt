@@ -1,4 +1,4 @@
--- Sums along one axis: THE BOX FACT, for every n. A running sum is a box and the running sum a box further back, so the
+-- Sums along one axis: n boxes, for every n. A running sum is a box and the running sum a box further back, so the
 -- difference of a row and the row a box further on is summed to a box.
 use mathlib.Core.Path.{_≡_, refl, ap, sym, _∙_, fun-ext}
 use Prim.Native.Nat.{ℕ, zero, suc, _+_, _*_, _-_, _^_}
@@ -128,7 +128,7 @@ unfolding box
 box-one l x =
     sum-ext _ (λ j. same j x 1) (λ j. omega (arith, mark-row j 1 x, same-as j x x j 1 sym sym)) l ∙ sum-same x 1 l
 
--- THE BOX FACT
+-- N BOXES
 -- n running sums
 unfoldable pub runnings : ℕ → Row → Row
 runnings zero f = f
@@ -154,9 +154,10 @@ box-step : (l : ℕ) (f : Row) → running (mix (2 ^ 64 - 1) f (shift l f)) ≈ 
 unfolding mix
 box-step l f x = rw (running-mix, running-shift) (omega (arith, running-box f l x))
 
-pub box-fact : (n l : ℕ) (f : Row) → runnings n (rowMarks (2 ^ 64 - 1) n l f) ≈ convolved n l f
+-- the marks of n boxes on a row, summed n times, are n boxes convolved with it
+pub row-boxes : (n l : ℕ) (f : Row) → runnings n (rowMarks (2 ^ 64 - 1) n l f) ≈ convolved n l f
 unfolding runnings rowMarks convolved
-box-fact zero l f x = refl
-box-fact (suc n) l f x =
+row-boxes zero l f x = refl
+row-boxes (suc n) l f x =
     rw (runnings-mix n (2 ^ 64 - 1) (rowMarks (2 ^ 64 - 1) n l f) (shift l (rowMarks (2 ^ 64 - 1) n l f)), runnings-shift)
-    (box-step l (runnings n (rowMarks (2 ^ 64 - 1) n l f)) x ∙ box-cong l _ _ (box-fact n l f) x)
+    (box-step l (runnings n (rowMarks (2 ^ 64 - 1) n l f)) x ∙ box-cong l _ _ (row-boxes n l f) x)

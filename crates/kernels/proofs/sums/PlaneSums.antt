@@ -4,7 +4,7 @@ use Prim.Native.Nat.{ℕ, zero, suc, _+_, _*_, _-_, _^_, _%_, _<_}
 use native.Mathlib.Omega.{arith}
 use Rattle.kernels.specs.Fixed.{planesEach, level, secondBox, thirdBox}
 use Rattle.kernels.specs.Choice.{within, same}
-use Rattle.kernels.specs.Sum.{sum, Row, Plane, Planes, running, across, down, add, slope, chain, finish}
+use Rattle.kernels.specs.Sum.{sum, Row, Plane, Planes, running, across, down, add, slope, summed, chain, finish}
 use Rattle.kernels.proofs.numbers.Choices.{by-lt, within-yes, within-no}
 use Rattle.kernels.proofs.sums.FiniteSums.{sum-ext, sum-add, sum-mul, _≈_, cong-add, cong-mul, sum-cong}
 use Rattle.kernels.proofs.sums.SlopeSums.{slope-add, slope-mul}
@@ -21,11 +21,6 @@ blank x y = 0
 -- c times a plane
 unfoldable pub times : ℕ → Plane → Plane
 times c f x y = c * f x y
-
--- n times across and down
-unfoldable pub both : ℕ → Plane → Plane
-both zero m = m
-both (suc n) m = down (across (both n m))
 
 -- SUMS OF PLANES
 across-add : (f g : Plane) → across (add f g) ≡ add (across f) (across g)
@@ -85,6 +80,11 @@ across-cong f g h x y = sum-cong _ _ (λ i. h i y) (suc x)
 pub down-cong : (f g : Plane) → f ≈² g → down f ≈² down g
 unfolding down running
 down-cong f g h x y = sum-cong _ _ (h x) (suc y)
+
+pub summed-cong : (n : ℕ) (f g : Plane) → f ≈² g → summed n f ≈² summed n g
+unfolding summed
+summed-cong zero f g h = h
+summed-cong (suc n) f g h = down-cong _ _ (across-cong _ _ (summed-cong n f g h))
 
 slope-cong : (d u : ℕ) (f g : Plane) → f ≈² g → slope d u f ≈² slope d u g
 unfolding slope
@@ -204,8 +204,8 @@ pub data Boxed : ℕ → ℕ → Type 0 where
   second : Boxed 2 secondBox
   third : Boxed 3 thirdBox
 
-pub finish-boxes : {n c : ℕ} → Boxed n c → (f : Plane) → finish (only c f) ≡ both n f
-unfolding finish chain only same blank both
+pub finish-boxes : {n c : ℕ} → Boxed n c → (f : Plane) → finish (only c f) ≡ summed n f
+unfolding finish chain only same blank summed
 finish-boxes first f = simp (blanks, slope-zero)
 finish-boxes second f = simp (blanks, slope-zero)
 finish-boxes third f = simp (blanks, slope-zero)
@@ -224,10 +224,10 @@ down-product : (f g : Row) → down (product f g) ≡ product f (running g)
 unfolding down product running
 down-product f g = fun-ext (λ x. fun-ext (λ y. sum-mul (f x) g (suc y)))
 
-pub both-product : (n : ℕ) (f g : Row) → both n (product f g) ≡ product (runnings n f) (runnings n g)
-unfolding both runnings
-both-product zero f g = refl
-both-product (suc n) f g = rw (both-product n f g, across-product, down-product)
+pub summed-product : (n : ℕ) (f g : Row) → summed n (product f g) ≡ product (runnings n f) (runnings n g)
+unfolding summed runnings
+summed-product zero f g = refl
+summed-product (suc n) f g = rw (summed-product n f g, across-product, down-product)
 
 pub product-cong : (f f' g g' : Row) → f ≈ f' → g ≈ g' → product f g ≈² product f' g'
 unfolding product

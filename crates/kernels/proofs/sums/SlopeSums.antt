@@ -1,11 +1,13 @@
 -- The slope sum of a mark, and THE PIECE FACT, for every slope d rows down less u rows up.
 use mathlib.Core.Path.{_≡_, refl, ap, sym, _∙_}
-use Prim.Native.Nat.{ℕ, zero, suc, _+_, _*_, _-_, _^_, _%_, _≤_, _<_}
+use Prim.Native.Nat.{ℕ, zero, suc, _+_, _*_, _-_, _^_, _≤_, _<_}
 use native.Mathlib.Omega.{arith}
-use native.Mathlib.Nat.{mul-le-mul-right, add-mul-mod-self-left}
-use Rattle.kernels.specs.Choice.{within, same}
+use native.Mathlib.Nat.{mul-le-mul-left, mul-le-mul-right, add-mul-mod-self-left}
+use Rattle.kernels.specs.Choice.{within, same, strip}
 use Rattle.kernels.specs.Sum.{Plane, slope}
-use Rattle.kernels.proofs.numbers.Choices.{by-lt, if-within, within-yes, within-no, same-yes, same-no, same-as, same-add, same-mul}
+use Rattle.kernels.specs.Mark.{Run, runRow, slopePlane, runMarks, planesOf}
+use Rattle.kernels.specs.Facts.{slopeIn, SlopeFact, runSum, PieceFact}
+use Rattle.kernels.proofs.numbers.Choices.{by-lt, if-within, within-yes, within-no, same-yes, same-no, same-as, same-add, same-mul, strip-in, strip-left, strip-right}
 
 -- w at one cell
 unfoldable pub at-cell : ℕ → ℕ → ℕ → Plane
@@ -73,54 +75,71 @@ ray d u x0 y0 w (suc k) (suc x) y q =
     (λ g. let le : u ≤ d = omega arith in sym (same-no _ _ w (omega (arith, mul-le-mul-right k le)))) in
     omega arith
 
--- A PIECE of n columns: w on its line, in its columns
-unfoldable pub piece : ℕ → ℕ → ℕ → ℕ → ℕ → ℕ → Plane
-piece d u x0 y0 n w x y =
-    within x0 x (within (suc x) (x0 + n) (same (y + u * (x - x0)) (y0 + d * (x - x0)) w))
+-- A PIECE
+-- a piece that ends inside the plane lies inside it
+stays-up : (d e y n i : ℕ) → (d + e) * n ≤ y + d * n → i ≤ n → (d + e) * i ≤ y + d * i
+stays-up d e y n i h g = omega (arith, mul-le-mul-left e g)
+
+pub stays : (d u y n i : ℕ) → u * n ≤ y + d * n → i ≤ n → u * i ≤ y + d * i
+stays d u y n i h g =
+    by-lt d u
+    (λ k. let e : d + (u - d) ≡ u = omega arith in rw e at (stays-up d (u - d) y n i (rw e h) g))
+    (λ k. omega (arith, mul-le-mul-right i k))
 
 -- from its start on the ray is the piece, and what starts a step past its end
-piece-ray : (d u x0 y0 n y1 w x y : ℕ) → y1 + u * n ≡ y0 + d * n
-    → slope d u (at-cell x0 y0 w) x y ≡ slope d u (at-cell (x0 + n) y1 w) x y + piece d u x0 y0 n w x y
-unfolding piece
-piece-ray d u x0 y0 n y1 w x y h =
+piece-ray : (d u x0 y0 n w x y : ℕ) → u * n ≤ y0 + d * n
+    → slope d u (at-cell x0 y0 w) x y
+    ≡ slope d u (at-cell (x0 + n) (y0 + d * n - u * n) w) x y + strip x0 n x (same y (y0 + d * (x - x0) - u * (x - x0)) w)
+piece-ray d u x0 y0 n w x y h =
+    let y1 = y0 + d * n - u * n in
+    let on = same y (y0 + d * (x - x0) - u * (x - x0)) w in
     by-lt x x0
-    (λ g. rw (within-no x0 x)
-    (omega (arith, ray-left d u x0 y0 w x y g, ray-left d u (x0 + n) y1 w x y (omega arith))))
+    (λ g. omega (arith, strip-left x0 n x on g, ray-left d u x0 y0 w x y g, ray-left d u (x0 + n) y1 w x y (omega arith)))
     (λ g.
     let a = ray d u x0 y0 w (x - x0) x y (omega arith) in
-    rw (within-yes x0 x) (by-lt x (x0 + n)
-    (λ i. rw (within-yes (suc x) (x0 + n)) (omega (arith, ray-left d u (x0 + n) y1 w x y i)))
-    (λ i. rw (within-no (suc x) (x0 + n) (same (y + u * (x - x0)) (y0 + d * (x - x0)) w) (omega arith))
-    (let b = ray d u (x0 + n) y1 w (x - (x0 + n)) x y (omega arith) in
+    by-lt x (x0 + n)
+    (λ i.
+    let m = stays d u y0 n (x - x0) h (omega arith) in
+    let b = same-as (y + u * (x - x0)) (y0 + d * (x - x0)) y (y0 + d * (x - x0) - u * (x - x0)) w (omega arith) (omega arith) in
+    omega (arith, strip-in x0 n x on g i, ray-left d u (x0 + n) y1 w x y i))
+    (λ i.
+    let b = ray d u (x0 + n) y1 w (x - (x0 + n)) x y (omega arith) in
     let s : x - x0 ≡ n + (x - (x0 + n)) = omega arith in
     let c = same-as (y + u * (x - x0)) (y0 + d * (x - x0)) (y + u * (x - (x0 + n))) (y1 + d * (x - (x0 + n))) w
     (rw s (omega arith)) (rw s (omega arith)) in
-    omega arith))))
+    omega (arith, strip-right x0 n x on i)))
 
--- p at a piece's start and q a step past its last column
-unfoldable pub ends : ℕ → ℕ → ℕ → ℕ → ℕ → ℕ → Plane
-ends x0 y0 p x1 y1 q x y = at-cell x0 y0 p x y + at-cell x1 y1 q x y
+-- a piece's two marks, alone in a plane
+run-plane : (p q x0 y0 : ℕ) (s : Run) (x y : ℕ)
+    → planesOf (runMarks p q x0 y0 s) (slopePlane s) x y
+    ≡ at-cell x0 y0 p x y + at-cell (x0 + s .columns) (runRow s y0 (s .columns)) q x y
+unfolding planesOf at-cell
+run-plane p q x0 y0 s x y =
+    let c = slopePlane s in
+    omega (
+      arith,
+      same-yes c c (same x x0 (same y y0 p)) refl,
+      same-yes c c (same x (x0 + s .columns) (same y (runRow s y0 (s .columns)) q)) refl,
+    )
 
--- THE PIECE FACT: opposite marks at a piece's start and a step past its last column are summed to the piece
-pub piece-fact : (d u x0 y0 n y1 p q k x y : ℕ) → y1 + u * n ≡ y0 + d * n → p + q ≡ 2 ^ 64 * k
-    → slope d u (ends x0 y0 p (x0 + n) y1 q) x y % 2 ^ 64 ≡ piece d u x0 y0 n p x y % 2 ^ 64
-unfolding ends
-piece-fact d u x0 y0 n y1 p q k x y h s =
-    let z = slope-ext d u _ _ (cell-add (x0 + n) y1 p q) x y
-    ∙ slope-add d u (at-cell (x0 + n) y1 p) (at-cell (x0 + n) y1 q) x y in
-    let m = slope-ext d u _ _ (cell-mul (x0 + n) y1 (2 ^ 64) k) x y ∙ slope-mul d u (2 ^ 64) (at-cell (x0 + n) y1 k) x y in
-    let r : slope d u (at-cell (x0 + n) y1 (p + q)) x y ≡ 2 ^ 64 * slope d u (at-cell (x0 + n) y1 k) x y = rw s m in
-    let t : slope d u (λ i j. at-cell x0 y0 p i j + at-cell (x0 + n) y1 q i j) x y
-    ≡ piece d u x0 y0 n p x y + 2 ^ 64 * slope d u (at-cell (x0 + n) y1 k) x y =
-    omega (arith, slope-add d u (at-cell x0 y0 p) (at-cell (x0 + n) y1 q) x y, piece-ray d u x0 y0 n y1 p x y h) in
+-- THE PIECE FACT
+pub piece-fact : PieceFact
+unfolding runSum
+piece-fact p q k x0 y0 s x y e h =
+    let d = s .downs in
+    let u = s .ups in
+    let x1 = x0 + s .columns in
+    let y1 = runRow s y0 (s .columns) in
+    let on = strip x0 (s .columns) x (same y (runRow s y0 (x - x0)) p) in
+    let z = slope-ext d u _ _ (cell-add x1 y1 p q) x y ∙ slope-add d u (at-cell x1 y1 p) (at-cell x1 y1 q) x y in
+    let m = slope-ext d u _ _ (cell-mul x1 y1 (2 ^ 64) k) x y ∙ slope-mul d u (2 ^ 64) (at-cell x1 y1 k) x y in
+    let r : slope d u (at-cell x1 y1 (p + q)) x y ≡ 2 ^ 64 * slope d u (at-cell x1 y1 k) x y = rw e m in
+    let both = slope-ext d u _ _ (run-plane p q x0 y0 s) x y ∙ slope-add d u (at-cell x0 y0 p) (at-cell x1 y1 q) x y in
+    let t : slope d u (planesOf (runMarks p q x0 y0 s) (slopePlane s)) x y ≡ on + 2 ^ 64 * slope d u (at-cell x1 y1 k) x y =
+    omega (arith, piece-ray d u x0 y0 (s .columns) p x y h) in
     rw (t, add-mul-mod-self-left)
 
--- PLANES OF h ROWS: the sum that reads 0 below the plane too, as "0 outside" says, is the slope sum
-unfoldable pub slopeIn : ℕ → ℕ → ℕ → Plane → Plane
-slopeIn h d u m zero y = m 0 y
-slopeIn h d u m (suc x) y =
-    m (suc x) y + within d (y + u) (within (suc (y + u - d)) h (slopeIn h d u m x (y + u - d)))
-
+-- PLANES OF h ROWS
 -- below the plane a sum that comes from further below is 0
 slope-below : (h d u : ℕ) (m : Plane) → ((x y : ℕ) → h ≤ y → m x y ≡ 0) → d ≤ u
     → (x y : ℕ) → h ≤ y → slope d u m x y ≡ 0
@@ -131,8 +150,7 @@ slope-below h d u m z s (suc x) y g =
     if-within _ _ _ _ (λ k. slope-below h d u m z s x (y + u - d) (omega arith)) (omega arith) in
     omega (arith, z (suc x) y g)
 
-pub slope-in : (h d u : ℕ) (m : Plane) → ((x y : ℕ) → h ≤ y → m x y ≡ 0)
-    → (x y : ℕ) → y < h → slopeIn h d u m x y ≡ slope d u m x y
+pub slope-in : SlopeFact
 unfolding slope slopeIn
 slope-in h d u m z zero y g = refl
 slope-in h d u m z (suc x) y g =

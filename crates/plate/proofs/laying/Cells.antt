@@ -12,7 +12,8 @@ use Rattle.kernels.specs.declared.shape.Shape.{Shape}
 use Rattle.kernels.specs.declared.shape.Shape.the-variants.{Box, Tent, Triple, Diamond, Hexagon, Octagon}
 use Rattle.kernels.specs.Shape.{reachOf, topUnder}
 use Rattle.kernels.proofs.numbers.Choices.{by-lt, if-same, same-yes, same-no, same-as}
-use Rattle.kernels.proofs.drawing.MarkPlaces.{Each, Near, marks-near}
+use Rattle.kernels.specs.Facts.{Each, Near}
+use Rattle.kernels.proofs.drawing.MarkPlaces.{marks-near}
 use Rattle.plate.specs.Layout.{Size, wide, high, padded, cell, places, columnOf, rowOf}
 use Rattle.plate.specs.Word.{Pixel}
 use Rattle.plate.specs.Marks.{inBoth, pixelMarks, total}

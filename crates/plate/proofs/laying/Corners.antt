@@ -14,7 +14,8 @@ use Rattle.plate.proofs.laying.Cells.{reach-under}
 use Rattle.kernels.specs.Mark.{Mark, minus, scaled, tapMarks, marks}
 use Rattle.kernels.specs.code.Drawing.{moved, drawingOf}
 use Rattle.kernels.proofs.numbers.Choices.{within-yes}
-use Rattle.kernels.proofs.drawing.MarkPlaces.{Each, Near, marks-near, tap-marks-moved}
+use Rattle.kernels.specs.Facts.{Each, Near}
+use Rattle.kernels.proofs.drawing.MarkPlaces.{marks-near, tap-marks-moved}
 use Rattle.plate.specs.Fixed.{planesInAll}
 use Rattle.plate.specs.Layout.{Size, wide, high, padded, columnOf, rowOf}
 use Rattle.plate.specs.Word.{Pixel}

@@ -6,7 +6,8 @@ use native.Mathlib.Omega.{arith}
 use lib.ListN.{getD}
 use Rattle.kernels.specs.Sum.{Plane, slope}
 use Rattle.kernels.proofs.numbers.Choices.{by-lt, if-within, within-yes, within-no}
-use Rattle.kernels.proofs.sums.SlopeSums.{slopeIn, slope-in}
+use Rattle.kernels.specs.Facts.{slopeIn}
+use Rattle.kernels.proofs.sums.SlopeSums.{slope-in}
 use Rattle.plate.specs.code.Passes.{fromAbove, FallingLines, fromBelow, RisingLines}
 use Rattle.plate.proofs.numbers.Wraps.{wrap-back}
 

@@ -1,0 +1,97 @@
+-- What is proved of marks and sums, as statements. Cells are compared at 2^64, since "Sums wrap at 2^64 on the way".
+use mathlib.Core.Path.{_≡_}
+use mathlib.Core.List.{List, [], _∷_}
+use Prim.Native.Nat.{ℕ, zero, suc, _+_, _*_, _-_, _^_, _%_, _≤_, _<_}
+use lib.Dec.{ltb}
+use Rattle.kernels.specs.Fixed.{planesEach, margin}
+use Rattle.kernels.specs.Choice.{pick, within, same, strip}
+use Rattle.kernels.specs.Sum.{dist, Plane, down, slope, summed, finish}
+use Rattle.kernels.specs.Shape.{Shape, reachOf}
+use Rattle.kernels.specs.Tap.{boxTap, weight}
+use Rattle.kernels.specs.Mark.{Mark, Run, runRow, slopePlane, runMarks, boxMarks, scaled, marks, planesOf}
+
+-- BOXES
+-- the box fact, for every n: the marks of n boxes around (X, Y), in whatever plane, summed across and down n times, are n boxes
+-- convolved on both axes
+abbrev pub BoxFact : Type 0
+BoxFact =
+    (p n r X Y x y : ℕ) → n * r ≤ X → n * r ≤ Y
+    → summed n (planesOf (boxMarks p n r X Y) p) x y % 2 ^ 64 ≡ boxTap n r (dist x X) * boxTap n r (dist y Y) % 2 ^ 64
+
+-- SLOPES
+-- the slope sum in a plane of h rows, which reads 0 below them too: "0 outside"
+unfoldable pub slopeIn : ℕ → ℕ → ℕ → Plane → Plane
+slopeIn h d u m zero y = m 0 y
+slopeIn h d u m (suc x) y =
+    m (suc x) y + within d (y + u) (within (suc (y + u - d)) h (slopeIn h d u m x (y + u - d)))
+
+-- in a plane that is 0 below its h rows it is the slope sum
+abbrev pub SlopeFact : Type 0
+SlopeFact =
+    (h d u : ℕ) (m : Plane) → ((x y : ℕ) → h ≤ y → m x y ≡ 0) → (x y : ℕ) → y < h → slopeIn h d u m x y ≡ slope d u m x y
+
+-- PIECES
+-- the marks of a piece from (x0, y0) on, summed by its slope
+unfoldable pub runSum : ℕ → ℕ → ℕ → ℕ → Run → Plane
+runSum p q x0 y0 s = slope (s .downs) (s .ups) (planesOf (runMarks p q x0 y0 s) (slopePlane s))
+
+-- the piece fact, for every slope: opposite marks of a piece that ends inside the plane are summed to p in its row in each of
+-- its columns, and to 0 elsewhere
+abbrev pub PieceFact : Type 0
+PieceFact =
+    (p q k x0 y0 : ℕ) (s : Run) (x y : ℕ) → p + q ≡ 2 ^ 64 * k → s .ups * s .columns ≤ y0 + s .downs * s .columns
+    → runSum p q x0 y0 s x y % 2 ^ 64 ≡ strip x0 (s .columns) x (same y (runRow s y0 (x - x0)) p) % 2 ^ 64
+
+-- LINES
+-- the columns of a line
+unfoldable pub columnsOf : List Run → ℕ
+columnsOf [] = 0
+columnsOf (s ∷ rest) = s .columns + columnsOf rest
+
+-- the row of a line that starts in row y, i columns on
+unfoldable pub rowAt : List Run → ℕ → ℕ → ℕ
+rowAt [] y i = y
+rowAt (s ∷ rest) y i = pick (ltb i (s .columns)) (runRow s y i) (rowAt rest (runRow s y (s .columns)) (i - s .columns))
+
+-- every piece ends inside the plane
+unfoldable pub Inside : List Run → ℕ → Type 0
+Inside [] y = Unit
+Inside (s ∷ rest) y = (s .ups * s .columns ≤ y + s .downs * s .columns) × Inside rest (runRow s y (s .columns))
+
+-- the marks of each piece, summed by its own slope, and the sums added
+unfoldable pub lineSum : ℕ → ℕ → ℕ → ℕ → List Run → Plane
+lineSum p q x0 y0 [] x y = 0
+lineSum p q x0 y0 (s ∷ rest) x y = runSum p q x0 y0 s x y + lineSum p q (x0 + s .columns) (runRow s y0 (s .columns)) rest x y
+
+-- the line fact, for every list of pieces of any slopes: "added and summed downwards" they are p in each cell on the line and
+-- below it, in its columns, and 0 elsewhere
+abbrev pub LineFact : Type 0
+LineFact =
+    (p q k x0 y0 : ℕ) (runs : List Run) (x y : ℕ) → p + q ≡ 2 ^ 64 * k → Inside runs y0
+    → down (lineSum p q x0 y0 runs) x y % 2 ^ 64 ≡ strip x0 (columnsOf runs) x (within (rowAt runs y0 (x - x0)) y p) % 2 ^ 64
+
+-- KERNELS
+-- the finished sum of a kernel's marks, each w times, is w times its weight in every cell
+abbrev pub KernelFact : Type 0
+KernelFact =
+    (s : Shape) (r w X Y x y : ℕ) → reachOf s r ≤ X → reachOf s r + 1 ≤ Y
+    → finish (planesOf (scaled w (marks s r X Y))) x y % 2 ^ 64 ≡ w * weight s r (dist x X) (dist y Y) % 2 ^ 64
+
+-- what holds of each mark of a list
+unfoldable pub Each : (Mark → Type 0) → List Mark → Type 0
+Each P [] = Unit
+Each P (m ∷ ms) = P m × Each P ms
+
+-- a mark in one of a picture's planes, at most d columns and d rows from (X, Y)
+pub record Near (d X Y : ℕ) (m : Mark) : Type 0 where
+  pub plane-in : m .plane < planesEach
+  pub left-in : X ≤ m .column + d
+  pub right-in : m .column ≤ X + d
+  pub top-in : Y ≤ m .row + d
+  pub bottom-in : m .row ≤ Y + d
+
+-- "the image starting at column and row R + 3": a kernel that reaches at most R has its marks within R + margin of its centre
+abbrev pub NearFact : Type 0
+NearFact =
+    (s : Shape) (r R X Y : ℕ) → reachOf s r ≤ R → R + margin ≤ X → R + margin ≤ Y
+    → Each (Near (R + margin) X Y) (marks s r X Y)
