@@ -50,13 +50,14 @@ blur l (suc m) =
     (lensFactor * l .opening * l .focal * dist (suc m) (l .focus))
     (l .pitch * suc m * (l .focus - l .focal))
 
--- what a radius that was found tells
+-- the paper's number and value for each answer: a radius in pixels is accepted
 unfoldable pub radiusTold : Radius → Told
 radiusTold (Pixels r) = told accepted r
 radiusTold NoLens = told lensRefused 0
 radiusTold NoDepth = told depthRefused 0
 
--- and what it has to tell: "then at most the shape's top under R"; "D, f, S or p outside" is 11, "a depth above 10,000,000" 12
+-- what the answer for a lens, a top and a depth has to tell: "then at most the shape's top under R"; "D, f, S or p outside" is
+-- 11, "a depth above 10,000,000" is 12
 unfoldable pub radiusFor : Lens → ℕ → ℕ → Told
 radiusFor l top z =
     pick (lawfulLens l)

@@ -89,16 +89,23 @@ flipped (s ∷ rest) = run (s .ups) (s .downs) (s .columns) ∷ flipped rest
 unfoldable pub outlineMarks : ℕ → ℕ → List Run → ℕ → ℕ → List Mark
 outlineMarks r h top X Y = lineMarks 1 (minus 1) (X - r) (Y - h) top ++ lineMarks (minus 1) 1 (X - r) (Y + h + 1) (flipped top)
 
--- "Each line is three pieces of constant slope (two for the diamond); a column that two pieces fit goes to the later one, so
--- the last takes the middle or the flat's right end."
+-- "Each line is three pieces of constant slope": a columns that rise by k rows, b level ones, and as many that fall by k rows
+-- and one more, since "a column that two pieces fit goes to the later one, so the last takes the middle or the flat's right end"
+abbrev pub threeRuns : ℕ → ℕ → ℕ → List Run
+threeRuns k a b = run 0 k a ∷ run 0 0 b ∷ run k 0 (a + 1) ∷ []
+
+-- "(two for the diamond)"
+abbrev pub twoRuns : ℕ → List Run
+twoRuns a = run 0 1 a ∷ run 1 0 (a + 1) ∷ []
+
 unfoldable pub diamondMarks : ℕ → ℕ → ℕ → List Mark
-diamondMarks r = outlineMarks r 0 (run 0 1 r ∷ run 1 0 (r + 1) ∷ [])
+diamondMarks r = outlineMarks r 0 (twoRuns r)
 
 unfoldable pub hexagonMarks : ℕ → ℕ → ℕ → ℕ → List Mark
-hexagonMarks r t = outlineMarks r 0 (run 0 2 t ∷ run 0 0 (2 * (r - t)) ∷ run 2 0 (t + 1) ∷ [])
+hexagonMarks r t = outlineMarks r 0 (threeRuns 2 t (2 * (r - t)))
 
 unfoldable pub octagonMarks : ℕ → ℕ → ℕ → ℕ → List Mark
-octagonMarks r t = outlineMarks r t (run 0 1 (r - t) ∷ run 0 0 (2 * t) ∷ run 1 0 (r - t + 1) ∷ [])
+octagonMarks r t = outlineMarks r t (threeRuns 1 (r - t) (2 * t))
 
 -- KERNELS
 -- the marks of the taps of a kernel around (X, Y): boxes in "slope 0, second or third"

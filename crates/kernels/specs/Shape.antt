@@ -27,11 +27,12 @@ shapes = Known Box ∷ Known Tent ∷ Known Triple ∷ Known Diamond ∷ Known H
 abbrev pub shapeOf : ℕ → ShapeRead
 shapeOf n = getD shapes n Unknown
 
--- what a shape that was read tells, and what it has to tell for a number: "shape above 5" is 6
+-- the paper's number and value for each answer: a known shape is accepted, and its value is its number
 unfoldable pub shapeTold : ShapeRead → Told
 shapeTold (Known s) = told accepted (numberOf s)
 shapeTold Unknown = told shapeRefused 0
 
+-- what the answer for the number n has to tell: "shape above 5" is 6
 unfoldable pub shapeFor : ℕ → Told
 shapeFor n = pick (ltb n shapeCount) (told accepted n) (told shapeRefused 0)
 

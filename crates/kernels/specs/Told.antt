@@ -1,4 +1,4 @@
--- What an answer tells in the paper's numbers.
+-- What an answer tells, in the paper's numbers.
 use Prim.Native.Nat.{ℕ}
 
 -- an answer's number and its value: "An accepted call returns number 0. A refusal returns its number"; a refusal has value 0

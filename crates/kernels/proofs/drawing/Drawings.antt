@@ -1,13 +1,13 @@
 -- A drawing has the marks of its kernel, around the centre that the smallest plane gives it.
 use mathlib.Core.Path.{_≡_}
 use mathlib.Core.Bool.{true, false}
+use mathlib.Core.List.{[], _∷_}
 use Prim.Native.Nat.{ℕ, _+_, _*_, _-_, _≤_}
 use native.Mathlib.Omega.{arith}
 use Rattle.kernels.specs.Fixed.{level, secondBox, thirdBox, margin}
 use Rattle.kernels.specs.Shape.{Shape, Box, Tent, Triple, Diamond, Hexagon, Octagon, reachOf}
 use Rattle.kernels.specs.Tap.{half}
-use Rattle.kernels.specs.Mark.{lineMarks, flipped, outlineMarks, boxGrid, boxMarks, diamondMarks, hexagonMarks, octagonMarks, tapMarks}
-use Rattle.kernels.proofs.marking.Kernel.{threeRuns}
+use Rattle.kernels.specs.Mark.{run, lineMarks, flipped, outlineMarks, boxGrid, boxMarks, diamondMarks, hexagonMarks, octagonMarks, tapMarks}
 use Rattle.kernels.specs.code.Drawing.{Lines, drawnMarks, linePieces, outlineOf, drawingOf}
 
 -- a grid whose first mark lies at the margin
@@ -52,14 +52,17 @@ diamond-drawn r =
       back-row z 1 r,
     )
 
-flat-drawn : (r h k a b : ℕ) → h + k * a ≤ r
-    → drawnMarks (Lines (outlineOf r h k a b true)) ≡ outlineMarks r h (threeRuns k a b) (r + margin) (r + margin)
+-- the last piece has a column more than the first
+flat-drawn : (r h k a b c : ℕ) → c ≡ a + 1 → h + k * a ≤ r
+    → drawnMarks (Lines (outlineOf r h k a b true))
+    ≡ outlineMarks r h (run 0 k a ∷ run 0 0 b ∷ run k 0 c ∷ []) (r + margin) (r + margin)
 unfolding drawnMarks linePieces outlineOf outlineMarks lineMarks flipped
-flat-drawn r h k a b p =
+flat-drawn r h k a b c e p =
     let y = r + margin - h in
     let z = r + margin + h + 1 in
     let plane : level + k - 0 ≡ level + k = omega arith in
     rw (
+      e,
       left-column r,
       plane,
       rise-row y a (k * a),
@@ -83,5 +86,5 @@ drawing-marks Box r = unfold drawnMarks in (grid-drawn level 1 r)
 drawing-marks Tent r = unfold drawnMarks in (grid-drawn secondBox 2 r)
 drawing-marks Triple r = unfold drawnMarks in (grid-drawn thirdBox 3 r)
 drawing-marks Diamond r = rw (reach-one r) (diamond-drawn r)
-drawing-marks Hexagon r = rw (reach-one r) (flat-drawn r 0 2 (half r) (2 * (r - half r)) (omega arith))
-drawing-marks Octagon r = rw (reach-one r) (flat-drawn r (half r) 1 (r - half r) (2 * half r) (omega arith))
+drawing-marks Hexagon r = rw (reach-one r) (flat-drawn r 0 2 (half r) (2 * (r - half r)) _ (omega arith) (omega arith))
+drawing-marks Octagon r = rw (reach-one r) (flat-drawn r (half r) 1 (r - half r) (2 * half r) _ (omega arith) (omega arith))

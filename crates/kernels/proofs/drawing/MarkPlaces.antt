@@ -8,10 +8,10 @@ use lib.ListN.{length}
 use Rattle.kernels.specs.Fixed.{planesEach, level, secondBox, thirdBox, margin}
 use Rattle.kernels.specs.Shape.{Shape, Box, Tent, Triple, Diamond, Hexagon, Octagon, reachOf, countOf}
 use Rattle.kernels.specs.Tap.{half, share}
-use Rattle.kernels.specs.Mark.{Mark, mark, minus, sign, choose, Run, runRow, lineMarks, flipped, outlineMarks, marksTo, boxGrid, boxMarks, diamondMarks, hexagonMarks, octagonMarks, tapMarks, scaled, marks}
+use Rattle.kernels.specs.Mark.{Mark, mark, minus, sign, choose, Run, runRow, lineMarks, flipped, outlineMarks, marksTo, boxGrid, boxMarks, twoRuns, diamondMarks, hexagonMarks, octagonMarks, tapMarks, scaled, marks}
 use Rattle.kernels.specs.Facts.{Inside, Each, Near, NearFact}
 use Rattle.kernels.proofs.marking.MarkLists.{each-append, each-one, each-to}
-use Rattle.kernels.proofs.marking.Kernel.{twoRuns, Walks, diamond-walks, hexagon-walks, octagon-walks}
+use Rattle.kernels.proofs.marking.Kernel.{Walks, diamond-walks, hexagon-walks, octagon-walks}
 use Rattle.kernels.specs.code.Drawing.{moved}
 
 -- AS MANY AS THE TABLE SAYS

@@ -1,13 +1,13 @@
 -- EVERY KERNEL: its marks, finished, are its weights.
 use mathlib.Core.Path.{_≡_, refl, ap, sym, _∙_}
 use mathlib.Core.List.{List, [], _∷_}
-use Prim.Native.Nat.{ℕ, _+_, _*_, _-_, _^_, _%_, _≤_, min}
+use Prim.Native.Nat.{ℕ, _+_, _*_, _-_, _^_, _%_, _≤_, _<_, min}
 use native.Mathlib.Omega.{arith}
 use native.Mathlib.Nat.{mul-le-mul-left, le-of-lt}
 use Rattle.kernels.specs.Sum.{dist, finish}
 use Rattle.kernels.specs.Shape.{Shape, Box, Tent, Triple, Diamond, Hexagon, Octagon, reachOf}
 use Rattle.kernels.specs.Tap.{half, tap, octagonTap, share, weight}
-use Rattle.kernels.specs.Mark.{Run, run, flipped, diamondMarks, hexagonMarks, octagonMarks, tapMarks, scaled, marks, planesOf}
+use Rattle.kernels.specs.Mark.{Run, run, flipped, threeRuns, twoRuns, diamondMarks, hexagonMarks, octagonMarks, tapMarks, scaled, marks, planesOf}
 use Rattle.kernels.specs.Facts.{columnsOf, rowAt, Inside, KernelFact}
 use Rattle.kernels.proofs.numbers.Choices.{by-lt}
 use Rattle.kernels.proofs.sums.FiniteSums.{cong-mul}
@@ -19,9 +19,6 @@ use Rattle.kernels.proofs.taps.TapForms.{box-tap, columnTap, diamondHei
 use Rattle.kernels.proofs.marking.Outlines.{outline-fact}
 
 -- SHAPES 3 TO 5: the row of the top line is the half height above the middle
-abbrev pub twoRuns : ℕ → List Run
-twoRuns r = run 0 1 r ∷ run 1 0 (r + 1) ∷ []
-
 -- both lines of a kernel end inside the plane
 abbrev pub Walks : ℕ → List Run → ℕ → Type 0
 Walks h top Y = Inside top (Y - h) × Inside (flipped top) (Y + h + 1)
@@ -46,16 +43,13 @@ diamond-kernel r X Y x y p q =
     ) (omega arith)))
     x y
 
--- a line that rises k rows for each of a columns, is level for b and falls again
-abbrev pub threeRuns : ℕ → ℕ → ℕ → List Run
-threeRuns k a b = run 0 k a ∷ run 0 0 b ∷ run k 0 (a + 1) ∷ []
-
--- its row is k times the columns from its nearer end above its start, and no more than k a above
-three-runs-rows : (k a b y i m : ℕ) → k * a ≤ y → i ≤ a + b + a → m ≡ min a (min i (a + b + a - i))
-    → rowAt (threeRuns k a b) y i + k * m ≡ y
-three-runs-rows k a b y i m h g e =
+-- the row of three pieces is k times the columns from the nearer end above their start, and no more than k a above, where the
+-- last piece has a column more than the first
+three-runs-rows : (k a b c y i m : ℕ) → a < c → k * a ≤ y → i ≤ a + b + a → m ≡ min a (min i (a + b + a - i))
+    → rowAt (run 0 k a ∷ run 0 0 b ∷ run k 0 c ∷ []) y i + k * m ≡ y
+three-runs-rows k a b c y i m l h g e =
     let flat = run 0 0 b in
-    let fall = run k 0 (a + 1) in
+    let fall = run k 0 c in
     by-lt i a
     (λ p.
     let z : m ≡ i = omega arith in
@@ -100,7 +94,7 @@ hexagon-kernel r X Y x y p q =
     outline-fact r 0 (threeRuns 2 t b) (hexagonHeight r) X Y p (omega arith) (unfold columnsOf in (omega arith))
     (unfold Sloping in (up2, (up0, (down2, tt)))) (w .0) (w .1)
     (λ i g. rw (hexagon-height r t (dist i r))
-    (three-runs-rows 2 t b (Y - 0) i (min t (r - dist i r)) (omega arith) (omega arith)
+    (three-runs-rows 2 t b _ (Y - 0) i (min t (r - dist i r)) (omega arith) (omega arith) (omega arith)
     (nearer r t i (t + b + t) g (omega arith)) ∙ omega arith))
     x y
 
@@ -130,7 +124,7 @@ octagon-kernel r t X Y x y s p q =
     outline-fact r t (threeRuns 1 a (2 * t)) (octagonHeight r t) X Y p (omega arith)
     (unfold columnsOf in (omega arith)) (unfold Sloping in (up1, (up0, (down1, tt)))) (w .0) (w .1)
     (λ i g. rw (octagon-height r t (dist i r) s (dist-le r i g)) (add-back _ t _ Y (omega arith)
-    (three-runs-rows 1 a (2 * t) (Y - t) i (min a (r - dist i r)) (omega arith) (omega arith)
+    (three-runs-rows 1 a (2 * t) _ (Y - t) i (min a (r - dist i r)) (omega arith) (omega arith) (omega arith)
     (nearer r a i (a + 2 * t + a) g (omega arith)))))
     x y
     ∙ ap (λ (z : ℕ). z % 2 ^ 64) (sym (octagon-columns r t (dist x X) (dist y Y)))

@@ -1,4 +1,5 @@
 -- `mark::draw` meets its contract: each arm hands out the drawing that the definition has for its shape.
+use mathlib.Core.Path.{refl}
 use borrow.Author.Needs.{needs}
 use Rattle.kernels.specs.code.Drawing.{drawingOf}
 use Rattle.kernels.proofs.mark.draw.Statement.{statement}
@@ -63,27 +64,27 @@ piece-ends-requires-3 c κs = search needs
 
 returns : tie.Need-returns
 unfolding drawingOf
-returns c = rw (c .enum-told .given .1)
+returns c = rw (c .enum-told .given .1) refl
 
 returns-2 : tie.Need-returns-2
 unfolding drawingOf
-returns-2 c = rw (c .enum-told2 .given .1)
+returns-2 c = rw (c .enum-told2 .given .1) refl
 
 returns-3 : tie.Need-returns-3
 unfolding drawingOf
-returns-3 c = rw (c .enum-told3 .given .1)
+returns-3 c = rw (c .enum-told3 .given .1) refl
 
 returns-4 : tie.Need-returns-4
 unfolding drawingOf
-returns-4 c = rw (c .before .enum-told4 .given .1, c .piece-ends .ensures)
+returns-4 c = rw (c .before .enum-told4 .given .1, c .piece-ends .ensures) refl
 
 returns-5 : tie.Need-returns-5
 unfolding drawingOf
-returns-5 c = rw (c .before .enum-told5 .given .1, c .piece-ends2 .ensures)
+returns-5 c = rw (c .before .enum-told5 .given .1, c .piece-ends2 .ensures) refl
 
 returns-6 : tie.Need-returns-6
 unfolding drawingOf
-returns-6 c = rw (c .before .enum-told6 .given .1, c .piece-ends3 .ensures)
+returns-6 c = rw (c .before .enum-told6 .given .1, c .piece-ends3 .ensures) refl
 
 pub draw-spec : {M : Type 1} → statement M
 draw-spec =
