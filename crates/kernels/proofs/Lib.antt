@@ -1,4 +1,5 @@
 pub mod numbers
+pub mod refusals
 pub mod sums
 pub mod taps
 pub mod marking

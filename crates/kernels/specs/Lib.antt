@@ -1,6 +1,7 @@
 pub mod Fixed
 pub mod Choice
 pub mod Told
+pub mod Rows
 pub mod Sum
 pub mod Shape
 pub mod Tap

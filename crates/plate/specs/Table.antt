@@ -6,6 +6,7 @@ use mathlib.Core.List.{List, [], _∷_}
 use Prim.Native.Nat.{ℕ, _*_, _-_, _/_, _%_, _^_, _≤_, _<_}
 use lib.ListN.{getD, length}
 use Rattle.kernels.specs.Fixed.{shapeCount, valueTop, depthTop}
+use Rattle.kernels.specs.Rows.{Row, row, FirstOf}
 use Rattle.kernels.specs.declared.shape.ShapeRead.{ShapeRead}
 use Rattle.kernels.specs.declared.shape.ShapeRead.the-variants.{Known, Unknown}
 use Rattle.kernels.specs.Shape.{shapeOf, topUnder}
@@ -18,25 +19,9 @@ use Rattle.plate.specs.Refusal.{Refusal, Sizes, Lengths, LogCount, Place
 use Rattle.plate.specs.Change.{askedPlace}
 use Rattle.plate.specs.Calls.{Left, refused, Shown, shows, answerOf, openCall, putCall, undoCall, fillCall, showCall}
 
--- ROWS
--- a row as a call meets it: the refusal, and what it is given for
-pub record Row : Type 1 where
-  pub refusal : Refusal
-  pub given : Type 0
-
-abbrev pub row : Refusal → Type 0 → Row
-row f given = record { refusal = f; given = given }
-
--- "The lowest number that applies is given": the answer is the refusal of the first row that applies, and the call is accepted
--- where none does
-unfoldable pub FirstOf : List Row → Outcome → Type 0
-FirstOf [] o = o ≡ Accepted
-FirstOf (r ∷ rows) o = (r .given × (o ≡ Refused (r .refusal))) ⊎ ((¬ (r .given)) × FirstOf rows o)
-
--- none of them applies
-unfoldable pub NoneOf : List Row → Type 0
-NoneOf [] = Unit {0}
-NoneOf (r ∷ rows) = (¬ (r .given)) × NoneOf rows
+-- an answer by rows: the refusal of the first that applies, and accepted where none does
+abbrev pub AnswersBy : List (Row Refusal) → Outcome → Type 0
+AnswersBy rows o = FirstOf (λ f. o ≡ Refused f) (o ≡ Accepted) rows
 
 -- WHEN EACH IS GIVEN
 -- a number that is not one from low to top
@@ -109,11 +94,11 @@ LensOutside l =
 
 -- THE ROWS OF EACH CALL: "a call checks only what it is lent"
 -- 1 2
-abbrev pub openRows : Size → Lent → List Row
+abbrev pub openRows : Size → Lent → List (Row Refusal)
 openRows z l = row Sizes (SizesOutside z) ∷ row Lengths (LentWrong z (sizedAs l)) ∷ []
 
 -- 1 2 3 4 5 6 7 8 10; "For 10, put reads the word at its place"
-abbrev pub putRows : State → Ask → Lent → List Row
+abbrev pub putRows : State → Ask → Lent → List (Row Refusal)
 putRows s a l =
     let z = s .size in
     row Sizes (SizesOutside z)
@@ -128,7 +113,7 @@ putRows s a l =
     ∷ []
 
 -- 1 2 3 9 10; "undo the last entry and the word at that entry's place"
-abbrev pub undoRows : State → Lent → List Row
+abbrev pub undoRows : State → Lent → List (Row Refusal)
 undoRows s l =
     let z = s .size in
     let entry = getD (l .log) (s .count - 1) 0 in
@@ -140,7 +125,7 @@ undoRows s l =
     ∷ []
 
 -- 1 2 3 5 6 11 12
-abbrev pub fillRows : State → LensOf → ℕ → Inputs → Lent → List Row
+abbrev pub fillRows : State → LensOf → ℕ → Inputs → Lent → List (Row Refusal)
 fillRows s o shape f l =
     let z = s .size in
     row Sizes (SizesOutside z)
@@ -153,18 +138,18 @@ fillRows s o shape f l =
     ∷ []
 
 -- 1 2
-abbrev pub showRows : State → List ℕ → Views → List Row
+abbrev pub showRows : State → List ℕ → Views → List (Row Refusal)
 showRows s planes v = row Sizes (SizesOutside (s .size)) ∷ row Lengths (ViewsWrong (s .size) planes v) ∷ []
 
 -- DEMAND 1
 -- a call that goes by its rows: its answer is theirs, and "after a refusal every lent buffer is as before", the mark count 0 and
 -- the state that is handed back
-pub record GoesBy (rows : List Row) (s : State) (l : Lent) (call : Left) : Type 0 where
-  pub first : FirstOf rows (call .answer .outcome)
+pub record GoesBy (rows : List (Row Refusal)) (s : State) (l : Lent) (call : Left) : Type 0 where
+  pub first : AnswersBy rows (call .answer .outcome)
   pub untouched : (f : Refusal) → call .answer .outcome ≡ Refused f → call ≡ refused f s l
 
-pub record ShowGoesBy (rows : List Row) (s : State) (v : Views) (call : Shown) : Type 0 where
-  pub first : FirstOf rows (call .answer .outcome)
+pub record ShowGoesBy (rows : List (Row Refusal)) (s : State) (v : Views) (call : Shown) : Type 0 where
+  pub first : AnswersBy rows (call .answer .outcome)
   pub untouched : (f : Refusal) → call .answer .outcome ≡ Refused f → call ≡ shows (answerOf (Refused f) 0 s) v
 
 -- "Any call of a public entry, with any sizes, buffers, stored words .., gets the finished work or exactly the refusal the

@@ -1,40 +1,35 @@
--- Rows of the table of refusals: one law for every call's list of them, and checks that keep to a row.
+-- Answers by rows of the table of refusals, and checks that keep to a row.
 use mathlib.Core.Path.{_≡_, refl, sym, _∙_}
 use mathlib.Core.Logic.{_⊎_, inl, inr, ⊎-elim}
 use mathlib.Core.List.{List, [], _∷_, _++_}
 use Prim.Native.Nat.{ℕ}
 use native.Mathlib.Omega.{arith}
 use Rattle.plate.specs.Refusal.{Refusal, Outcome, Accepted, Refused}
-use Rattle.plate.specs.Table.{Row, row, FirstOf, NoneOf}
+use Rattle.kernels.specs.Rows.{Row, row, FirstOf, NoneOf}
+use Rattle.kernels.proofs.refusals.Rows.{none-accepted, accepted-none, same-answer, first-then}
+use Rattle.plate.specs.Table.{AnswersBy}
 
 pub refused-not : {P : Type 0} (f : Refusal) → Refused f ≡ Accepted → P
 refused-not f e = let z : _≡_ {A = ℕ} 0 1 = cc in absurd (omega arith)
 
 -- AN ANSWER BY ROWS
 -- it is accepted exactly where none applies
-pub none-accepted : (rows : List Row) (o : Outcome) → FirstOf rows o → NoneOf rows → o ≡ Accepted
-unfolding FirstOf NoneOf
-none-accepted [] o e none = e
-none-accepted (r ∷ rows) o (inl p) none = absurd (none .0 (p .0))
-none-accepted (r ∷ rows) o (inr p) none = none-accepted rows o (p .1) (none .1)
+pub none-refused : (rows : List (Row Refusal)) (o : Outcome) → AnswersBy rows o → NoneOf rows → o ≡ Accepted
+none-refused rows o = none-accepted (λ f. o ≡ Refused f) (o ≡ Accepted) rows
 
-pub accepted-none : (rows : List Row) (o : Outcome) → FirstOf rows o → o ≡ Accepted → NoneOf rows
-unfolding FirstOf NoneOf
-accepted-none [] o e a = tt
-accepted-none (r ∷ rows) o (inl p) a = refused-not (r .refusal) (sym (p .1) ∙ a)
-accepted-none (r ∷ rows) o (inr p) a = (p .0, accepted-none rows o (p .1) a)
+pub refused-none : (rows : List (Row Refusal)) (o : Outcome) → AnswersBy rows o → o ≡ Accepted → NoneOf rows
+refused-none rows o =
+    accepted-none (λ f. o ≡ Refused f) (o ≡ Accepted) rows (λ f r a. refused-not f (sym r ∙ a))
 
 -- and there is one such answer
-pub answered-once : (rows : List Row) (o p : Outcome) → FirstOf rows o → FirstOf rows p → o ≡ p
-unfolding FirstOf
-answered-once [] o p a b = a ∙ sym b
-answered-once (r ∷ rows) o p (inl a) (inl b) = a .1 ∙ sym (b .1)
-answered-once (r ∷ rows) o p (inl a) (inr b) = absurd (b .0 (a .0))
-answered-once (r ∷ rows) o p (inr a) (inl b) = absurd (a .0 (b .0))
-answered-once (r ∷ rows) o p (inr a) (inr b) = answered-once rows o p (a .1) (b .1)
+pub answered-once : (rows : List (Row Refusal)) (o p : Outcome) → AnswersBy rows o → AnswersBy rows p → o ≡ p
+answered-once rows o p =
+    same-answer (λ f. o ≡ Refused f) (o ≡ Accepted) (λ f. p ≡ Refused f) (p ≡ Accepted) rows
+    (λ f a b. a ∙ sym b)
+    (λ a b. a ∙ sym b)
 
 -- past the last row a call is accepted
-pub last-row : FirstOf [] Accepted
+pub last-row : AnswersBy [] Accepted
 unfolding FirstOf
 last-row = refl
 
@@ -48,12 +43,13 @@ pub and-then : (a next : Outcome) → andThen a next ≡ Accepted → (a ≡ Acc
 and-then Accepted next e = (refl, e)
 and-then (Refused f) next e = refused-not f e
 
-pub first-then : (rows more : List Row) (o p : Outcome) → FirstOf rows o → (o ≡ Accepted → FirstOf more p)
-    → FirstOf (rows ++ more) (andThen o p)
-unfolding FirstOf
-first-then [] more o p e then = rw e (then e)
-first-then (r ∷ rows) more o p (inl a) then = inl (a .0, rw (a .1))
-first-then (r ∷ rows) more o p (inr a) then = inr (a .0, first-then rows more o p (a .1) then)
+pub answers-then : (rows more : List (Row Refusal)) (o p : Outcome) → AnswersBy rows o → (o ≡ Accepted → AnswersBy more p)
+    → AnswersBy (rows ++ more) (andThen o p)
+answers-then rows more o p first rest =
+    first-then (λ f. o ≡ Refused f) (o ≡ Accepted) (λ f. andThen o p ≡ Refused f) (andThen o p ≡ Accepted) rows more
+    (λ f r. rw r)
+    (λ a. rw a (rest a))
+    first
 
 -- CHECKS
 -- a check that keeps to a row: where the row applies it refuses, whatever comes next; where the row does not, and something is
@@ -86,8 +82,8 @@ module _ {f : Refusal} {G C : Type 0} {check : Outcome → Outcome} where
       by-check k (λ g r. rw (r (andThen a next), r a)) (λ c r. rw (r (andThen a next), r a))
 
   -- the row of a check is the first of the rows
-  pub first-check : Checks f G C check → (rows : List Row) (next : Outcome) → (C → FirstOf rows next)
-      → FirstOf (row f G ∷ rows) (check next)
+  pub first-check : Checks f G C check → (rows : List (Row Refusal)) (next : Outcome) → (C → AnswersBy rows next)
+      → AnswersBy (row f G ∷ rows) (check next)
   unfolding FirstOf
   first-check k rows next rest =
       by-check k (λ g r. inl (g, r next)) (λ c r. inr ((λ g. k .apart g c), rw (r next) (rest c)))

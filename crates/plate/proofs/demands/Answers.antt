@@ -7,6 +7,7 @@ use Prim.Native.Nat.{ℕ, _-_, _<_}
 use native.Mathlib.Omega.{arith}
 use lib.ListN.{getD, length}
 use Rattle.kernels.specs.Fixed.{valueTop, depthTop}
+use Rattle.kernels.specs.Rows.{Row, row, FirstOf}
 use Rattle.kernels.specs.declared.lens.Lens.{Lens as LensOf}
 use Rattle.kernels.specs.Shape.{shapeOf}
 use Rattle.plate.specs.Layout.{Size, sizeFrom}
@@ -15,8 +16,8 @@ use Rattle.plate.specs.Word.{Unpacked, Whole, Broken, readWord, EntryRea
 use Rattle.plate.specs.Refusal.{Refusal, Sizes, Lengths, LogCount, Place, Value, Shape, Radius, LogFull, LogEmpty, StoredWord, Lens, Depth, Outcome, Accepted, Refused, openCheck, plateCheck, askCheck, putCheck, undoCheck, emptyCheck, fillFirst, layerCheck, fillCheck, viewsCheck, showCheck}
 use Rattle.plate.specs.Change.{ChangeRead, ToChange, NoChange, askedPlace, putOver, putReadBy, putRead, undoOver, undoEntry, undoReadBy, undoRead}
 use Rattle.plate.specs.Calls.{refused, shows, answerOf, openBy, openCall, putBy, putCall, undoBy, undoCall, fillBy, fillCall, showBy, showCall, changed}
-use Rattle.plate.specs.Table.{Row, row, FirstOf, SizesOutside, LentWrong, InputsWrong, ViewsWrong, PlaceOutside, SomeAbove, ShapeAbove, RadiusAbove, WordBroken, EntryBroken, placeIn, LensOutside, LawfulSize, openRows, putRows, undoRows, fillRows, showRows, GoesBy, ShowGoesBy, Demand1, OpenAccepts}
-use Rattle.plate.proofs.checks.Rows.{last-row, andThen, first-then, first-check, checks-both}
+use Rattle.plate.specs.Table.{AnswersBy, SizesOutside, LentWrong, InputsWrong, ViewsWrong, PlaceOutside, SomeAbove, ShapeAbove, RadiusAbove, WordBroken, EntryBroken, placeIn, LensOutside, LawfulSize, openRows, putRows, undoRows, fillRows, showRows, GoesBy, ShowGoesBy, Demand1, OpenAccepts}
+use Rattle.plate.proofs.checks.Rows.{last-row, andThen, answers-then, first-check, checks-both}
 use Rattle.plate.proofs.checks.Conditions.{sizes-checks, lent-checks, inputs-checks, views-checks, count-checks, place-checks, value-checks, shape-checks, radius-checks, full-checks, empty-checks, above-checks, lens-checks}
 use Rattle.plate.proofs.checks.Passed.{sizes-pass, lent-pass}
 use Rattle.plate.proofs.checks.Accepted.{plate-accepted}
@@ -56,8 +57,8 @@ outcomeOf (ToChange c) = Accepted
 outcomeOf (NoChange f) = Refused f
 
 -- 1 2 3, and what is known where they pass
-plate-first : (s : State) (l : Lent) (rows : List Row) (next : Outcome) → (LawfulSize (s .size) → FirstOf rows next)
-    → FirstOf
+plate-first : (s : State) (l : Lent) (rows : List (Row Refusal)) (next : Outcome) → (LawfulSize (s .size) → AnswersBy rows next)
+    → AnswersBy
     (row Sizes (SizesOutside (s .size)) ∷ row Lengths (LentWrong (s .size) (sizedAs l)) ∷ row LogCount (length (l .log) < s .count) ∷ rows)
     (plateCheck s (sizedAs l) next)
 unfolding plateCheck
@@ -83,14 +84,14 @@ undo-outcome (Refused f) s pixels log = refl
 
 -- 10 of a put
 put-stored : (z : Size) (a : Ask) (w : ℕ) → WordTold (z .reach) w
-    → FirstOf (row StoredWord (WordBroken (z .reach) w) ∷ []) (outcomeOf (putOver (readWord (z .reach) w) z a))
+    → AnswersBy (row StoredWord (WordBroken (z .reach) w) ∷ []) (outcomeOf (putOver (readWord (z .reach) w) z a))
 unfolding FirstOf putOver
 put-stored z a w (inl t) = inl (t .0, rw (t .1))
 put-stored z a w (inr t) = inr (t .sound, rw (t .read))
 
 -- and of an undo
 undo-stored : (z : Size) (e : ℕ) (pixels : List ℕ) → EntryTold z e
-    → FirstOf (row StoredWord (EntryBroken z e ⊎ WordBroken (z .reach) (getD pixels (placeIn e) 0)) ∷ [])
+    → AnswersBy (row StoredWord (EntryBroken z e ⊎ WordBroken (z .reach) (getD pixels (placeIn e) 0)) ∷ [])
     (outcomeOf (undoEntry (readEntry z e) z pixels))
 unfolding FirstOf undoEntry undoOver
 undo-stored z e pixels (inl t) = inl (inl (t .0), rw (t .1))
@@ -114,7 +115,7 @@ put-untouched (NoChange g) s l f e = rw (same-refusal f g e)
 
 -- 4 to 8
 ask-first : (z : Size) (n room : ℕ) (a : Ask)
-    → FirstOf
+    → AnswersBy
     (row Place (PlaceOutside z (a .x) (a .y))
     ∷ row Value (valueTop < a .value)
     ∷ row Shape (ShapeAbove (a .shape))
@@ -130,13 +131,13 @@ ask-first z n room a =
     first-check (radius-checks (z .reach) (shapeOf (a .shape)) (a .radius)) _ _ (λ _.
     first-check (full-checks n room) [] Accepted (λ _. last-row)))))
 
-put-first : (s : State) (a : Ask) (l : Lent) → FirstOf (putRows s a l) (putCall s a l .answer .outcome)
+put-first : (s : State) (a : Ask) (l : Lent) → AnswersBy (putRows s a l) (putCall s a l .answer .outcome)
 unfolding putCall putRead putCheck
 put-first s a l =
     let z = s .size in
     let check = plateCheck s (sizedAs l) (askCheck z (s .count) (length (l .log)) a) in
     rw (put-said (putReadBy check z a (l .pixels)) s l, put-outcome check z a (l .pixels))
-    (first-then _ _ check _
+    (answers-then _ _ check _
     (plate-first s l _ _ (λ _. ask-first z (s .count) (length (l .log)) a))
     (λ _. put-stored z a _ (word-told (z .reach) (getD (l .pixels) (askedPlace z a) 0))))
 
@@ -157,13 +158,13 @@ unfolding undoBy changed
 undo-untouched (ToChange c) s l f e = accepted-not f e
 undo-untouched (NoChange g) s l f e = rw (same-refusal f g e)
 
-undo-first : (s : State) (l : Lent) → FirstOf (undoRows s l) (undoCall s l .answer .outcome)
+undo-first : (s : State) (l : Lent) → AnswersBy (undoRows s l) (undoCall s l .answer .outcome)
 unfolding undoCall undoRead undoCheck
 undo-first s l =
     let z = s .size in
     let check = plateCheck s (sizedAs l) (emptyCheck (s .count) Accepted) in
     rw (undo-said (undoReadBy check s (l .pixels) (l .log)) s l, undo-outcome check s (l .pixels) (l .log))
-    (first-then _ _ check _
+    (answers-then _ _ check _
     (plate-first s l _ _ (λ _. first-check (empty-checks (s .count)) [] Accepted (λ _. last-row)))
     (λ e. undo-stored z _ (l .pixels)
     (entry-told z (getD (l .log) (s .count - 1) 0) (plate-accepted s (sizedAs l) _ e .0 .lawful))))
@@ -187,7 +188,7 @@ fill-untouched (Refused h) s o k f l g e = rw (same-refusal g h e)
 
 -- 5 6 11 12
 layer-first : (o : LensOf) (k : ℕ) (f : Inputs)
-    → FirstOf
+    → AnswersBy
     (row Value (SomeAbove valueTop (f .values))
     ∷ row Shape (ShapeAbove k)
     ∷ row Lens (LensOutside o)
