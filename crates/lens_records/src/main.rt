@@ -1,6 +1,7 @@
 // The record program: records from standard input, their text to standard output.
 use libc::STDIN_FILENO;
 use libc::STDOUT_FILENO;
+use records::advance::advance;
 use records::fixed::CELLS;
 use records::fixed::LOG;
 use records::fixed::Log;
@@ -10,97 +11,71 @@ use records::fixed::Pixels;
 use records::fixed::Planes;
 use records::fixed::SCRATCH_CELLS;
 use records::fixed::Scratch;
-use records::fixed::TEXT;
+use records::fixed::Text;
 use records::fixed::Values;
 use records::machine::Machine;
-ghost use Prim.Native.Nat.{_+_, _≤_};
-ghost use mathlib.Core.Path.{_≡_};
+ghost use Prim.Native.Nat.{_≤_};
 ghost use lib.ListN.{length};
-ghost use Rattle.lens_records.specs.Fixed.{bufferRoom, fullFrom};
+ghost use Rattle.records.specs.Machine.{Taking};
 
-// The bytes of the buffer that text is collected in, and how many may stand there before the next byte: the text of any record
-// still fits then.
-const BUFFER: usize = 65536;
+// A call of advance, its text written: the machine, how many bytes were taken, and whether the write went well.
+struct Told {
+    machine: Machine,
+    consumed: usize,
+    well: bool,
+}
 
-const FULL: usize = BUFFER - TEXT;
-
-// A run on its way: the machine, how much text stands at the start of the buffer, whether every read and write has gone well, and
-// whether there is more to read.
+// A run on its way: the machine, whether every read and write has gone well, and whether there is more to read.
 struct Run {
     machine: Machine,
-    used: usize,
     well: bool,
     more: bool,
 }
 
-// What stands in the buffer is written, unless a write has failed before.
-fn flush(run: Run, text: &mut [u8]) -> Run
-    requires { ⌜ run .used ≤ length (now text) ⌝ }
-    ensures { λ r. ⌜ r .used ≡ 0 ⌝ }
+// The first bytes of the text are written.
+fn write(text: &[u8], n: usize) -> bool
+    requires { ⌜ n ≤ length (now text) ⌝ }
 {
-    let machine = run.machine;
-    let used = run.used;
-    if !run.well {
-        return Run {
-            machine: machine,
-            used: 0,
-            well: false,
-            more: run.more,
-        };
-    }
-    let well = io::write_all(STDOUT_FILENO, &text[..used]);
-    Run {
-        machine: machine,
-        used: 0,
-        well: well,
-        more: run.more,
-    }
+    io::write_all(STDOUT_FILENO, &text[..n])
 }
 
-// One byte. The text is collected, and written before the next byte could overflow the buffer.
-fn step(
-    run: Run,
-    byte: u8,
+// A call of advance, and its text written.
+fn tell(
+    machine: Machine,
+    part: &[u8],
     planes: &mut Planes,
     pixels: &mut Pixels,
     log: &mut Log,
     scratch: &mut Scratch,
     values: &mut Values,
     mattes: &mut Mattes,
-    text: &mut [u8],
-) -> Run
-    requires { ⌜ (run .used ≤ fullFrom) × (length (now text) ≡ bufferRoom) ⌝ }
-    ensures { λ r. ⌜ r .used ≤ fullFrom ⌝ }
+    text: &mut Text,
+) -> Told
+    ensures { λ r. ⌜ Taking (r .consumed) (now (part .entry)) ⌝ }
 {
-    let machine = run.machine;
-    let used = run.used;
-    let fed = records::machine::feed(
+    let next = advance(
         machine,
-        byte,
+        part,
         planes,
         pixels,
         log,
         scratch,
         values,
         mattes,
-        &mut text[used..],
+        text,
     );
-    let next = fed.machine;
-    let after = Run {
-        machine: next,
-        used: used + fed.written,
-        well: run.well,
-        more: run.more,
-    };
-    if after.used <= FULL {
-        return after;
+    let after = next.machine;
+    let n = next.written;
+    Told {
+        machine: after,
+        consumed: next.consumed,
+        well: write(text, n),
     }
-    flush(after, text)
 }
 
-// The bytes of one read, and their text written.
+// The bytes of one read, handed on from where the call before stopped until they are consumed.
 fn part(
-    run: Run,
+    machine: Machine,
     input: &[u8],
     planes: &mut Planes,
     pixels: &mut Pixels,
@@ -108,16 +83,22 @@ fn part(
     scratch: &mut Scratch,
     values: &mut Values,
     mattes: &mut Mattes,
-    text: &mut [u8],
-) -> Run
-    requires { ⌜ (run .used ≤ fullFrom) × (length (now text) ≡ bufferRoom) ⌝ }
-    ensures { λ r. ⌜ r .used ≡ 0 ⌝ }
-{
-    let mut now = run;
-    for i in 0..input.len() {
-        now = step(
-            now,
-            input[i],
+    text: &mut Text,
+) -> Told {
+    let mut now = Told {
+        machine: machine,
+        consumed: 0,
+        well: true,
+    };
+    let mut at = 0;
+    while at < input.len() {
+        if !now.well {
+            return now;
+        }
+        let before = now.machine;
+        now = tell(
+            before,
+            &input[at..],
             planes,
             pixels,
             log,
@@ -126,14 +107,23 @@ fn part(
             mattes,
             text,
         );
+        at += now.consumed;
     }
-    flush(now, text)
+    now
+}
+
+// Whether there is more to read for: the run has not stopped and its text was written.
+fn going(machine: Machine, well: bool) -> bool {
+    if !well {
+        return false;
+    }
+    !records::machine::ended(machine)
 }
 
 // One read, and the text of what it brought. The run goes on unless the input has ended, it has stopped, or a read or a write has
 // failed.
 fn turn(
-    run: Run,
+    machine: Machine,
     planes: &mut Planes,
     pixels: &mut Pixels,
     log: &mut Log,
@@ -141,24 +131,19 @@ fn turn(
     values: &mut Values,
     mattes: &mut Mattes,
     input: &mut [u8],
-    text: &mut [u8],
-) -> Run
-    requires { ⌜ (run .used ≡ 0) × (length (now text) ≡ bufferRoom) ⌝ }
-    ensures { λ r. ⌜ r .used ≡ 0 ⌝ }
-{
+    text: &mut Text,
+) -> Run {
     let got = libc::read(STDIN_FILENO, input);
     let n = io::count(got, input);
     if n == 0 {
-        let machine = run.machine;
         return Run {
             machine: machine,
-            used: 0,
             well: got == 0,
             more: false,
         };
     }
-    let next = part(
-        run,
+    let told = part(
+        machine,
         &input[..n],
         planes,
         pixels,
@@ -168,21 +153,12 @@ fn turn(
         mattes,
         text,
     );
-    let machine = next.machine;
+    let after = told.machine;
     Run {
-        machine: machine,
-        used: 0,
-        well: next.well,
-        more: going(machine, next.well),
+        machine: after,
+        well: told.well,
+        more: going(after, told.well),
     }
-}
-
-// Whether there is more to read for: the run has not stopped and its text was written.
-fn going(machine: Machine, well: bool) -> bool {
-    if !well {
-        return false;
-    }
-    !records::machine::ended(machine)
 }
 
 // Reads while the run goes on.
@@ -194,14 +170,11 @@ fn serve(
     values: &mut Values,
     mattes: &mut Mattes,
     input: &mut [u8],
-    text: &mut [u8],
-) -> Run
-    requires { ⌜ length (now text) ≡ bufferRoom ⌝ }
-{
+    text: &mut Text,
+) -> Run {
     let machine = records::machine::start();
     let mut run = Run {
         machine: machine,
-        used: 0,
         well: true,
         more: true,
     };
@@ -210,8 +183,9 @@ fn serve(
         if !run.more {
             return run;
         }
+        let before = run.machine;
         run = turn(
-            run,
+            before,
             planes,
             pixels,
             log,
@@ -224,6 +198,12 @@ fn serve(
         turns -= 1;
     }
     run
+}
+
+// The end of the input.
+fn end(machine: Machine, text: &mut Text) {
+    let n = records::machine::finish(machine, text);
+    write(text, n);
 }
 
 fn main() {
@@ -247,7 +227,6 @@ fn main() {
     );
     if run.well {
         let machine = run.machine;
-        let n = records::machine::finish(machine, &mut text);
-        io::write_all(STDOUT_FILENO, &text[..n]);
+        end(machine, &mut text);
     }
 }

@@ -1,3 +1,4 @@
--- The statements about whole inputs: from bytes to text, in any cut, and the worked example of the paper.
+-- The statements about whole inputs: from bytes to text, in any cut, each call goes on, and the worked example of the paper.
 pub mod EndToEnd
+pub mod AnyCut
 pub mod Worked

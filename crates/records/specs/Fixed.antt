@@ -1,5 +1,5 @@
 -- The record program's numbers of the paper, each named once. The code's names for them are in src/fixed.rt.
-use Prim.Native.Nat.{ℕ, _*_}
+use Prim.Native.Nat.{ℕ, _*_, _-_}
 use Rattle.kernels.specs.Fixed.{shapeCount}
 use Rattle.plate.specs.Fixed.{planesInAll, scratchPlanes}
 
@@ -32,6 +32,14 @@ longestBody = putBody
 abbrev pub noShape : ℕ
 noShape = shapeCount
 
--- the bytes that a call is lent for its text: no record writes more
+-- the bytes of a record's text: no record writes more
 abbrev pub textRoom : ℕ
 textRoom = 4096
+
+-- the bytes that a call is lent for its text, and how many may stand there before the next byte: the text of any record still fits
+-- then
+abbrev pub bufferRoom : ℕ
+bufferRoom = 65536
+
+abbrev pub fullFrom : ℕ
+fullFrom = bufferRoom - textRoom

@@ -3,7 +3,7 @@
 use mathlib.Core.Path.{_≡_}
 use mathlib.Core.Bool.{Bool, true, false}
 use mathlib.Core.List.{List, [], _∷_, _++_}
-use Prim.Native.Nat.{ℕ, _+_, _*_, _-_, _^_, _<_}
+use Prim.Native.Nat.{ℕ, zero, suc, _+_, _*_, _-_, _^_, _≤_, _<_}
 use denote.Ref.{now}
 use lib.Dec.{ltb, eqb}
 use lib.ListN.{length, take, drop, set}
@@ -20,7 +20,7 @@ use Rattle.plate.specs.declared.lent.Ask.{Ask}
 use Rattle.plate.specs.Lent.{Lent, lent, Views, views, Borrowed}
 use Rattle.plate.specs.Calls.{Left, openCall, putCall, undoCall, showCall, zeros}
 use Rattle.plate.specs.Lists.{Byte, codes}
-use Rattle.records.specs.Fixed.{cellsTop, planesRoom, scratchRoom, logRoom, longestBody, textRoom}
+use Rattle.records.specs.Fixed.{cellsTop, planesRoom, scratchRoom, logRoom, longestBody, fullFrom}
 use Rattle.records.specs.Text.{doneLine, showText, withText}
 use Rattle.records.specs.Record.{Record, Open, Put, NoShape, Undo, Show, Stop, Sizes, Kind, Body, Order, Cells, BodyLength, Bytes, NoKind, bodyLength, recordOf, strokeAsk, shapelessAsk}
 use Rattle.records.specs.Run.{answerText, stopText, paperText}
@@ -33,6 +33,7 @@ pub use Rattle.records.specs.declared.machine.Machine.{Machine}
 pub use Rattle.records.specs.declared.machine.Next.{Next}
 pub use Rattle.records.specs.declared.machine.Next.the-variants.{Wait, Lose, Refuse, Do}
 pub use Rattle.records.specs.declared.machine.Taken.{Taken}
+pub use Rattle.records.specs.declared.advance.Advanced.{Advanced}
 
 -- BUFFERS
 pub record Buffers : Type 0 where
@@ -268,23 +269,42 @@ endText m = pick (ltb (m .held) (m .whole)) (stopText (m .count) Body) (doneLine
 unfoldable pub finishOf : Machine → List ℕ
 finishOf m = pick (endedAt (m .stage)) [] (endText m)
 
+-- one byte after another, and the text so far
+abbrev pub fedThen : List ℕ → Progress → Progress
+fedThen t f = fed (f .machine) (f .buffers) (t ++ f .text)
+
+abbrev pub fedOn : Progress → ℕ → Progress
+fedOn f x = fedThen (f .text) (feedOf (f .machine) x (f .buffers))
+
+unfoldable pub feedAll : Progress → List ℕ → Progress
+feedAll f [] = f
+feedAll f (x ∷ xs) = feedAll (fedOn f x) xs
+
 -- CALLS
--- what a call of feed leaves: the text stands at the start of what it is lent for it
-pub record Handed : Type 0 where
-  pub machine : Machine
+-- what a call of advance leaves: its answer is the machine, how many bytes of the input it took and how many of text it wrote; the
+-- text stands at the start of what it is lent for it
+pub record AdvanceLeft : Type 0 where
+  pub answer : Advanced
   pub buffers : Buffers
   pub out : List ℕ
-  pub written : ℕ
 
-abbrev pub handed : Machine → ℕ → Buffers → List ℕ → Handed
-handed m n b out = record { machine = m; buffers = b; out = out; written = n }
+abbrev pub advanceLeft : Advanced → Buffers → List ℕ → AdvanceLeft
+advanceLeft a b out = record { answer = a; buffers = b; out = out }
 
-abbrev pub handOut : Progress → List ℕ → Handed
-handOut f out = handed (f .machine) (length (f .text)) (f .buffers) (withText out 0 (f .text))
+-- how many bytes of an input are taken: all of them, or those before the text of one record more might not fit
+unfoldable pub takes : Progress → List ℕ → ℕ
+takes f [] = 0
+takes f (x ∷ xs) = pick (ltb fullFrom (length (f .text))) 0 (suc (takes (fedOn f x) xs))
 
--- a call that is lent less than the room for its text loses the run
-unfoldable pub feedCall : Machine → ℕ → Buffers → List ℕ → Handed
-feedCall m x b out = handOut (pick (ltb (length out) textRoom) (lost m b) (feedOf m x b)) out
+-- a front of the input, the machine and the buffers after it, and its text
+abbrev pub advancedBy : ℕ → Progress → List ℕ → AdvanceLeft
+advancedBy n f out =
+    advanceLeft (record { machine = f .machine; consumed = n; written = length (f .text) }) (f .buffers) (withText out 0 (f .text))
+
+unfoldable pub advanceCall : Machine → List ℕ → Buffers → List ℕ → AdvanceLeft
+advanceCall m input b out =
+    let n = takes (fed m b []) input in
+    advancedBy n (feedAll (fed m b []) (take n input)) out
 
 -- and a call of finish
 pub record Closing : Type 0 where
@@ -298,7 +318,7 @@ abbrev pub closeWith : List ℕ → List ℕ → Closing
 closeWith t out = closing (withText out 0 t) (length t)
 
 unfoldable pub finishCall : Machine → List ℕ → Closing
-finishCall m out = closeWith (pick (ltb (length out) textRoom) [] (finishOf m)) out
+finishCall m out = closeWith (finishOf m) out
 
 -- A RUN
 -- the machine before the first byte
@@ -309,36 +329,61 @@ fresh = machine Closed 0 0 0 (zeros longestBody) 0
 abbrev pub zeroed : Buffers
 zeroed = buffers (zeros planesRoom) (zeros cellsTop) (zeros logRoom) (zeros scratchRoom) (zeros cellsTop) (zeros cellsTop)
 
--- one byte after another, and the text so far
-abbrev pub fedThen : List ℕ → Progress → Progress
-fedThen t f = fed (f .machine) (f .buffers) (t ++ f .text)
-
-unfoldable pub feedAll : Progress → List ℕ → Progress
-feedAll f [] = f
-feedAll f (x ∷ xs) = feedAll (fedThen (f .text) (feedOf (f .machine) x (f .buffers))) xs
-
--- the text of what has been fed, and the end
-abbrev pub ending : Progress → List ℕ
-ending f = f .text ++ finishOf (f .machine)
-
--- the text of an input
+-- the text of an input: of what is fed, and the end
 unfoldable pub machineText : List ℕ → List ℕ
-machineText input = ending (feedAll (fed fresh zeroed []) input)
+machineText input = let f = feedAll (fed fresh zeroed []) input in f .text ++ finishOf (f .machine)
 
 -- FROM BYTES TO TEXT: for every input, the machine writes the text of the paper's rules applied to the notebook's answers. The
 -- machine counts its records in 64 bits, so the input is shorter than 2^64 bytes.
 abbrev pub EndToEnd : Type 0
 EndToEnd = (input : List Byte) → length input < 2 ^ 64 → machineText (codes input) ≡ paperText (codes input)
 
--- an input that comes in parts
-unfoldable pub feedParts : Progress → List (List ℕ) → Progress
-feedParts f [] = f
-feedParts f (part ∷ parts) = feedParts (feedAll f part) parts
+-- A RUN OF CALLS
+-- the machine and the buffers between two calls, what is lent for the text, and all that has been written
+pub record Calling : Type 0 where
+  pub machine : Machine
+  pub buffers : Buffers
+  pub out : List ℕ
+  pub told : List ℕ
+
+-- a call of advance, and its text written
+abbrev pub telling : List ℕ → AdvanceLeft → Calling
+telling told l =
+    let a = l .answer in
+    record { machine = a .machine; buffers = l .buffers; out = l .out; told = told ++ take (a .written) (l .out) }
+
+-- a part of the input, handed on from where the call before stopped, until it is consumed: in n calls at most
+unfoldable pub callsOn : ℕ → Calling → List ℕ → Calling
+callsOn zero c part = c
+callsOn (suc n) c [] = c
+callsOn (suc n) c (x ∷ xs) =
+    let l = advanceCall (c .machine) (x ∷ xs) (c .buffers) (c .out) in
+    callsOn n (telling (c .told) l) (drop (l .answer .consumed) (x ∷ xs))
+
+-- one part after another. A call takes a byte or more, so that no part needs more calls than it has bytes.
+unfoldable pub callsOnParts : Calling → List (List ℕ) → Calling
+callsOnParts c [] = c
+callsOnParts c (part ∷ parts) = callsOnParts (callsOn (length part) c part) parts
+
+-- the text of a run: of the calls of advance, and of the call of finish
+unfoldable pub callsText : List ℕ → List (List ℕ) → List ℕ
+callsText out parts =
+    let c = callsOnParts (record { machine = fresh; buffers = zeroed; out = out; told = [] }) parts in
+    let l = finishCall (c .machine) (c .out) in
+    c .told ++ take (l .written) (l .out)
 
 unfoldable pub joined : List (List ℕ) → List ℕ
 joined [] = []
 joined (part ∷ parts) = part ++ joined parts
 
--- IN ANY CUT: the parts of an input write what it writes whole
+-- IN ANY CUT: an input that comes in parts, cut anywhere, has the text of the whole, whatever stands in what is lent for the text
 abbrev pub AnyCut : Type 0
-AnyCut = (parts : List (List ℕ)) → ending (feedParts (fed fresh zeroed []) parts) ≡ machineText (joined parts)
+AnyCut = (out : List ℕ) (parts : List (List ℕ)) → callsText out parts ≡ machineText (joined parts)
+
+-- EACH CALL GOES ON: of a part that is not empty it takes a byte or more, and no more than there are
+pub record Taking (n : ℕ) (part : List ℕ) : Type 0 where
+  pub some : 0 < length part → 0 < n
+  pub within : n ≤ length part
+
+abbrev pub GoesOn : Type 0
+GoesOn = (m : Machine) (part : List ℕ) (b : Buffers) (out : List ℕ) → Taking (advanceCall m part b out .answer .consumed) part

@@ -22,10 +22,16 @@ pub const BODY: usize = PUT_BODY;
 // A number that names no shape: the first after them.
 pub const NO_SHAPE: u8 = SHAPES as u8;
 
-// The bytes that a call is lent for its text: no record writes more.
+// The bytes of a record's text: no record writes more.
 pub const TEXT: usize = 4096;
 
-// The buffers of a run, and the body of a record.
+// The bytes that a call is lent for its text, and how many may stand there before the next byte: the text of any record still fits
+// then.
+pub const BUFFER: usize = 65536;
+
+pub const FULL: usize = BUFFER - TEXT;
+
+// The buffers of a run, the body of a record, and what a call is lent for its text.
 pub type Planes = [u64; PLANE_CELLS];
 
 pub type Pixels = [u64; CELLS];
@@ -39,3 +45,5 @@ pub type Values = [u16; CELLS];
 pub type Mattes = [u8; CELLS];
 
 pub type Body = [u8; BODY];
+
+pub type Text = [u8; BUFFER];

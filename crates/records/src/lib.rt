@@ -1,4 +1,5 @@
 // Records: raw bytes in, text out.
+pub mod advance;
 pub mod fixed;
 pub mod machine;
 pub mod perform;

@@ -1,4 +1,4 @@
-// The machine: it takes the input a byte at a time, and hands out the text to write. Its buffers are lent to each call.
+// The machine: what a byte makes of it, and its end. Its buffers are lent to each call.
 use crate::fixed::BODY;
 use crate::fixed::Body;
 use crate::fixed::Log;
@@ -6,7 +6,7 @@ use crate::fixed::Mattes;
 use crate::fixed::Pixels;
 use crate::fixed::Planes;
 use crate::fixed::Scratch;
-use crate::fixed::TEXT;
+use crate::fixed::Text;
 use crate::fixed::Values;
 use crate::perform::Stage;
 use crate::perform::perform;
@@ -21,7 +21,8 @@ ghost use lib.ListN.{length};
 ghost use Rattle.records.specs.Fixed.{textRoom};
 ghost use Rattle.records.specs.code.Written.{Wrote};
 ghost use Rattle.records.specs.code.Room.{AllRoom};
-ghost use Rattle.records.specs.Machine.{atEntry, atExit, endedAt, fresh, standing, settledOf, begunOf, carriedOf, takenOf, fedBy, Do, fedTaken, handed, handOut, feedCall, endText, closing, finishCall};
+ghost use Rattle.records.specs.Machine.{atEntry, atExit, endedAt, fresh, standing, settledOf, begunOf, carriedOf, takenOf, fedBy, Do, fedTaken, feedOf, endText, closing, finishCall};
+ghost use Rattle.records.specs.code.Handed.{handed, handOut};
 
 // A run between two bytes: where it stands, the record that is being read (its kind, how many bytes of its body are held, and of
 // how many), and how many records have begun.
@@ -34,8 +35,8 @@ pub struct Machine {
     pub count: u64,
 }
 
-// What a byte leaves: the machine, and how many bytes of text stand at the start of what was lent for it.
-pub struct Fed {
+// What a byte leaves: the machine, and how many bytes of text stand in what was lent for it.
+pub(crate) struct Fed {
     pub machine: Machine,
     pub written: usize,
 }
@@ -254,9 +255,8 @@ fn follow(
     }
 }
 
-// A byte of the input: the machine after it, with its text at the start of `out`. A call that is lent less than
-// `TEXT` bytes for it ends the run.
-pub fn feed(
+// A byte of the input: the machine after it, with its text at the start of `out`.
+pub(crate) fn feed(
     m: Machine,
     byte: u8,
     planes: &mut Planes,
@@ -267,15 +267,9 @@ pub fn feed(
     mattes: &mut Mattes,
     out: &mut [u8],
 ) -> Fed
-    ensures { λ r. ⌜ handed (r .machine) (r .written) (atExit planes pixels log scratch values mattes) (now (out .exit)) ≡ feedCall m byte (atEntry planes pixels log scratch values mattes) (now (out .entry)) ⌝ }
-    ensures { λ r. ⌜ r .written ≤ length (now (out .entry)) ⌝ }
+    requires { ⌜ textRoom ≤ length (now out) ⌝ }
+    ensures { λ r. ⌜ handed (r .machine) (r .written) (atExit planes pixels log scratch values mattes) (now (out .exit)) ≡ handOut (feedOf m byte (atEntry planes pixels log scratch values mattes)) (now (out .entry)) ⌝ }
 {
-    if out.len() < TEXT {
-        return Fed {
-            machine: moved(m, Stage::Ended),
-            written: 0,
-        };
-    }
     if ended(m) {
         return Fed {
             machine: m,
@@ -307,13 +301,9 @@ fn end(m: Machine, out: &mut [u8]) -> usize
 }
 
 // The end of the input: how many bytes of text stand at the start of `out` then.
-pub fn finish(m: Machine, out: &mut [u8]) -> usize
+pub fn finish(m: Machine, out: &mut Text) -> usize
     ensures { λ r. ⌜ closing (now (out .exit)) r ≡ finishCall m (now (out .entry)) ⌝ }
-    ensures { λ r. ⌜ r ≤ length (now (out .entry)) ⌝ }
 {
-    if out.len() < TEXT {
-        return 0;
-    }
     if ended(m) {
         return 0;
     }

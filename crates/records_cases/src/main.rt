@@ -11,6 +11,7 @@ use records::fixed::Pixels;
 use records::fixed::Planes;
 use records::fixed::SCRATCH_CELLS;
 use records::fixed::Scratch;
+use records::fixed::Text;
 use records::fixed::Values;
 use records::machine::Machine;
 ghost use Prim.Native.Nat.{_≤_, _<_};
@@ -39,6 +40,13 @@ fn digit(b: u8) -> u8 {
     16
 }
 
+// The first bytes of the text are written.
+fn write(text: &[u8], n: usize)
+    requires { ⌜ n ≤ length (now text) ⌝ }
+{
+    io::write_all(STDOUT_FILENO, &text[..n]);
+}
+
 // A byte of a case's input, and the text that it brings.
 fn feed(
     machine: Machine,
@@ -49,11 +57,12 @@ fn feed(
     scratch: &mut Scratch,
     values: &mut Values,
     mattes: &mut Mattes,
-    text: &mut [u8],
+    text: &mut Text,
 ) -> Machine {
-    let fed = records::machine::feed(
+    let part = [byte];
+    let next = records::advance::advance(
         machine,
-        byte,
+        &part,
         planes,
         pixels,
         log,
@@ -62,9 +71,9 @@ fn feed(
         mattes,
         text,
     );
-    let n = fed.written;
-    io::write_all(STDOUT_FILENO, &text[..n]);
-    fed.machine
+    let n = next.written;
+    write(text, n);
+    next.machine
 }
 
 // One character of a case.
@@ -77,7 +86,7 @@ fn step(
     scratch: &mut Scratch,
     values: &mut Values,
     mattes: &mut Mattes,
-    text: &mut [u8],
+    text: &mut Text,
 ) -> Run {
     let machine = run.machine;
     let d = digit(b);
@@ -119,7 +128,7 @@ fn characters(
     scratch: &mut Scratch,
     values: &mut Values,
     mattes: &mut Mattes,
-    text: &mut [u8],
+    text: &mut Text,
 ) -> Machine {
     let machine = records::machine::start();
     let mut run = Run {
@@ -142,6 +151,12 @@ fn characters(
     run.machine
 }
 
+// The end of a case's input.
+fn end(machine: Machine, text: &mut Text) {
+    let n = records::machine::finish(machine, text);
+    write(text, n);
+}
+
 // A case from its first character to the end of its input.
 fn run_case(case: &[u8]) {
     let mut planes = [0u64; PLANE_CELLS];
@@ -150,7 +165,7 @@ fn run_case(case: &[u8]) {
     let mut scratch = [0u64; SCRATCH_CELLS];
     let mut values = [0u16; CELLS];
     let mut mattes = [0u8; CELLS];
-    let mut text = io::buffer();
+    let mut text = io::large_buffer();
     let machine = characters(
         case,
         &mut planes,
@@ -161,8 +176,7 @@ fn run_case(case: &[u8]) {
         &mut mattes,
         &mut text,
     );
-    let n = records::machine::finish(machine, &mut text);
-    io::write_all(STDOUT_FILENO, &text[..n]);
+    end(machine, &mut text);
 }
 
 // The place after the next occurrence of a byte, or the end.

@@ -1,4 +1,4 @@
--- Each turn leaves no text in the buffer; the turns are counted down.
+-- Each turn leaves the buffer for the input as long as it was; the turns are counted down.
 use mathlib.Core.Path.{_≡_}
 use lib.ListN.{length}
 use borrow.Author.Needs.{needs}
@@ -7,7 +7,7 @@ use Rattle.lens_records.proofs.serve.Tie as tie
 
 abbrev Inv-loop : tie.InvT-loop
 Inv-loop planes₀ pixels₀ log₀ scratch₀ values₀ mattes₀ input₀ text₀ run₀ turns₀ planes pixels log scratch values mattes input text run turns =
-    (run .used ≡ 0) × (length text ≡ length text₀) × (length input ≡ length input₀)
+    length input ≡ length input₀
 
 abbrev μ-loop : tie.MeasureT-loop
 μ-loop planes₀ pixels₀ log₀ scratch₀ values₀ mattes₀ input₀ text₀ run₀ turns₀ planes pixels log scratch values mattes input text run turns =
@@ -21,9 +21,6 @@ loop-holds c = search needs
 
 same-length : tie.Need-same-length Inv-loop μ-loop
 same-length c = search needs
-
-same-length-2 : tie.Need-same-length-2 Inv-loop μ-loop
-same-length-2 c = search needs
 
 returns : tie.Need-returns Inv-loop μ-loop
 returns c = search needs
@@ -40,11 +37,8 @@ loop-less c = search needs
 loop-again : tie.Need-loop-again Inv-loop μ-loop
 loop-again c = search needs
 
-same-length-3 : tie.Need-same-length-3 Inv-loop μ-loop
-same-length-3 c = search needs
-
-same-length-4 : tie.Need-same-length-4 Inv-loop μ-loop
-same-length-4 c = search needs
+same-length-2 : tie.Need-same-length-2 Inv-loop μ-loop
+same-length-2 c = search needs
 
 returns-2 : tie.Need-returns-2 Inv-loop μ-loop
 returns-2 c = search needs
@@ -58,12 +52,10 @@ serve-spec =
     start-requires
     loop-holds
     same-length
-    same-length-2
     returns
     turn-requires
     sub-turns
     loop-less
     loop-again
-    same-length-3
-    same-length-4
+    same-length-2
     returns-2)

@@ -13,7 +13,7 @@ use Rattle.plate.specs.Notebook.{Book}
 use Rattle.plate.specs.Lists.{Byte, codes}
 use Rattle.records.specs.Record.{Kind, Bytes, NoKind, bodyLength, recordOf, next, withBody, itemsBy, itemsOf}
 use Rattle.records.specs.Run.{Desk, closed, opened, Act, stop, go, act, stopText, thenText, textFrom, paperText}
-use Rattle.records.specs.Machine.{Stage, Closed, machine, Buffers, Did, recordOn, Progress, doneBy, settledOf, begunBy, begunOf, takenOf, fedBy, fedTaken, endedAt, feedOf, endText, feedAll, feedParts, joined, fed, fresh, zeroed, machineText, ending, EndToEnd, AnyCut, fedThen}
+use Rattle.records.specs.Machine.{Stage, Closed, machine, Buffers, Did, recordOn, Progress, doneBy, settledOf, begunBy, begunOf, takenOf, fedBy, fedTaken, endedAt, feedOf, endText, fresh, zeroed, machineText, EndToEnd}
 use Rattle.records.proofs.running.Feeding.{run, onward, machine-text-run, run-ended, fed-live, last-live, filled, filled-take, body-read}
 use Rattle.records.proofs.standing.Invariant.{RightLengths, Stands, at-closed, at-open, Agrees}
 use Rattle.records.proofs.standing.Acts.{acts-agree}
@@ -146,18 +146,3 @@ end-to-end input h =
     ∙ follows-all (suc (length bytes)) Closed 0 0 (zeros longestBody) 0 zeroed closed bytes (omega arith) (at-closed zeroed-sized)
     (zeros-long longestBody)
     (omega arith) (codes-bytes input)
-
--- IN ANY CUT
-fed-both : (f : Progress) (xs ys : List ℕ) → feedAll f (xs ++ ys) ≡ feedAll (feedAll f xs) ys
-unfolding feedAll
-fed-both f [] ys = refl
-fed-both f (x ∷ xs) ys = fed-both (fedThen (f .text) (feedOf (f .machine) x (f .buffers))) xs ys
-
-fed-parts : (f : Progress) (parts : List (List ℕ)) → feedParts f parts ≡ feedAll f (joined parts)
-unfolding feedParts joined feedAll
-fed-parts f [] = refl
-fed-parts f (part ∷ parts) = fed-parts (feedAll f part) parts ∙ sym (fed-both f part (joined parts))
-
-pub any-cut : AnyCut
-unfolding machineText
-any-cut parts = ap ending (fed-parts (fed fresh zeroed []) parts)

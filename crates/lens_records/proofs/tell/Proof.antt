@@ -1,0 +1,18 @@
+-- What a call writes is no longer than its buffer, and what it takes is some of the part.
+use Rattle.records.proofs.answering.Handing.{advanced-room}
+use Rattle.records.proofs.statements.AnyCut.{call-goes-on}
+use borrow.Author.Needs.{needs}
+use Rattle.lens_records.proofs.tell.Statement.{statement}
+use Rattle.lens_records.proofs.tell.Tie as tie
+
+advance-requires : tie.Need-advance-requires
+advance-requires c κs = search needs
+
+write-requires : tie.Need-write-requires
+write-requires c κs = advanced-room _ _ _ _ (c .before .before .before .advance .ensures)
+
+returns : tie.Need-returns
+returns c = call-goes-on _ _ _ _ (c .before .before .before .before .advance .ensures)
+
+pub tell-spec : {M : Type 1} → statement M
+tell-spec = tie.close (tie.spec advance-requires write-requires returns)
