@@ -10,11 +10,11 @@ use Rattle.kernels.specs.Facts.{slopeIn, SlopeFact, runSum, PieceFact}
 use Rattle.kernels.proofs.numbers.Choices.{by-lt, if-within, within-yes, within-no, same-yes, same-no, same-as, same-add, same-mul, strip-in, strip-left, strip-right}
 
 -- w at one cell
-unfoldable pub at-cell : ℕ → ℕ → ℕ → Plane
+unfoldable at-cell : ℕ → ℕ → ℕ → Plane
 at-cell x0 y0 w x y = same x x0 (same y y0 w)
 
 -- THE SUM IS LINEAR
-pub slope-ext : (d u : ℕ) (f g : Plane) → ((x y : ℕ) → f x y ≡ g x y) → (x y : ℕ) → slope d u f x y ≡ slope d u g x y
+slope-ext : (d u : ℕ) (f g : Plane) → ((x y : ℕ) → f x y ≡ g x y) → (x y : ℕ) → slope d u f x y ≡ slope d u g x y
 unfolding slope
 slope-ext d u f g h zero y = h 0 y
 slope-ext d u f g h (suc x) y = rw (h (suc x) y, slope-ext d u f g h x (y + u - d))

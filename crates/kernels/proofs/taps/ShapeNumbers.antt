@@ -52,7 +52,7 @@ count-few Hexagon = (lit≤ tt, lit≤ tt)
 count-few Octagon = (lit≤ tt, lit≤ tt)
 
 -- "shape 0 to 5"
-pub shape-past : (n : ℕ) → shapeCount ≤ n → shapeOf n ≡ Unknown
+shape-past : (n : ℕ) → shapeCount ≤ n → shapeOf n ≡ Unknown
 shape-past n h = List·getD-eq-default shapes Unknown h
 
 -- a number's shape has that number
