@@ -89,8 +89,8 @@ flipped (s ∷ rest) = run (s .ups) (s .downs) (s .columns) ∷ flipped rest
 unfoldable pub outlineMarks : ℕ → ℕ → List Run → ℕ → ℕ → List Mark
 outlineMarks r h top X Y = lineMarks 1 (minus 1) (X - r) (Y - h) top ++ lineMarks (minus 1) 1 (X - r) (Y + h + 1) (flipped top)
 
--- "Each line is three pieces of constant slope": a columns that rise by k rows, b level ones, and as many that fall by k rows
--- and one more, since "a column that two pieces fit goes to the later one, so the last takes the middle or the flat's right end"
+-- "Each line is three pieces of constant slope": a columns that rise by k rows each, b level ones, and a + 1 that fall by k
+-- rows each: "a column that two pieces fit goes to the later one, so the last takes the middle or the flat's right end"
 abbrev pub threeRuns : ℕ → ℕ → ℕ → List Run
 threeRuns k a b = run 0 k a ∷ run 0 0 b ∷ run k 0 (a + 1) ∷ []
 
