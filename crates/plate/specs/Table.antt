@@ -2,7 +2,7 @@
 -- DEMAND 1: every call answers by its rows, and a refused call leaves everything as it was.
 use mathlib.Core.Path.{_≡_}
 use mathlib.Core.Logic.{_≢_, _⊎_}
-use mathlib.Core.List.{List, [], _∷_}
+use mathlib.Core.List.{List, [], _∷_, map}
 use Prim.Native.Nat.{ℕ, _*_, _-_, _/_, _%_, _^_, _≤_, _<_}
 use lib.ListN.{getD, length}
 use Rattle.kernels.specs.Fixed.{shapeCount, valueTop, depthTop}
@@ -15,7 +15,7 @@ use Rattle.kernels.specs.Lens.{openingTop, focalTop, focusTop, pitchTop}
 use Rattle.plate.specs.Fixed.{planesInAll, scratchPlanes, sideTop, placesTop, reachTop, logTop, wordBits}
 use Rattle.plate.specs.Layout.{Size, sizeFrom, padded, places}
 use Rattle.plate.specs.Lent.{State, stateOf, Lent, Sized, sizedAs, Ask, Inputs, Views}
-use Rattle.plate.specs.Refusal.{Refusal, Sizes, Lengths, LogCount, Place, Value, Shape, Radius, LogFull, LogEmpty, StoredWord, Lens, Depth, Outcome, Accepted, Refused, openCheck}
+use Rattle.plate.specs.Refusal.{Refusal, Sizes, Lengths, LogCount, Place, Value, Shape, Radius, LogFull, LogEmpty, StoredWord, Lens, Depth, Outcome, Accepted, Refused, refusalNumber, openCheck}
 use Rattle.plate.specs.Change.{askedPlace}
 use Rattle.plate.specs.Calls.{Left, refused, Shown, shows, answerOf, openCall, putCall, undoCall, fillCall, showCall}
 
@@ -49,11 +49,19 @@ ViewsWrong z planes v =
     ⊎ (length (v .values) ≢ places z)
     ⊎ (length (v .mattes) ≢ places z)
 
+-- 3: "log count above log length"
+abbrev pub CountAbove : State → Lent → Type 0
+CountAbove s l = length (l .log) < s .count
+
 -- 4: "x ≥ W or y ≥ H"
 unfoldable pub PlaceOutside : Size → ℕ → ℕ → Type 0
 PlaceOutside z x y = (z .width ≤ x) ⊎ (z .height ≤ y)
 
--- one of the numbers is above the top: 5 and 12 of a fill
+-- 5: "v above 4,095"
+abbrev pub ValueAbove : ℕ → Type 0
+ValueAbove v = valueTop < v
+
+-- one of the numbers is above the top: 5 of a fill's values, and 12: "a depth above 10,000,000"
 unfoldable pub SomeAbove : ℕ → List ℕ → Type 0
 SomeAbove top [] = ⊥
 SomeAbove top (n ∷ ns) = (top < n) ⊎ SomeAbove top ns
@@ -66,6 +74,14 @@ ShapeAbove n = shapeCount ≤ n
 unfoldable pub RadiusAbove : ℕ → ShapeRead → ℕ → Type 0
 RadiusAbove R Unknown r = ⊥
 RadiusAbove R (Known s) r = topUnder s R < r
+
+-- 8: "put: count equals log length"
+abbrev pub CountFull : State → Lent → Type 0
+CountFull s l = s .count ≡ length (l .log)
+
+-- 9: "undo: count 0"
+abbrev pub CountNone : State → Type 0
+CountNone s = s .count ≡ 0
 
 -- 10: "stored word or entry breaks 4, 6, 7 or the zero bits", with "shape in 20 to 23, radius in 24 to 31, zeros above"
 unfoldable pub WordBroken : ℕ → ℕ → Type 0
@@ -93,53 +109,62 @@ LensOutside l =
     ⊎ Outside 1 pitchTop (l .pitch)
 
 -- THE ROWS OF EACH CALL: "a call checks only what it is lent"
--- 1 2
 abbrev pub openRows : Size → Lent → List (Row Refusal)
 openRows z l = row Sizes (SizesOutside z) ∷ row Lengths (LentWrong z (sizedAs l)) ∷ []
 
--- 1 2 3 4 5 6 7 8 10; "For 10, put reads the word at its place"
+-- "For 10, put reads the word at its place"
 abbrev pub putRows : State → Ask → Lent → List (Row Refusal)
 putRows s a l =
     let z = s .size in
     row Sizes (SizesOutside z)
     ∷ row Lengths (LentWrong z (sizedAs l))
-    ∷ row LogCount (length (l .log) < s .count)
+    ∷ row LogCount (CountAbove s l)
     ∷ row Place (PlaceOutside z (a .x) (a .y))
-    ∷ row Value (valueTop < a .value)
+    ∷ row Value (ValueAbove (a .value))
     ∷ row Shape (ShapeAbove (a .shape))
     ∷ row Radius (RadiusAbove (z .reach) (shapeOf (a .shape)) (a .radius))
-    ∷ row LogFull (s .count ≡ length (l .log))
+    ∷ row LogFull (CountFull s l)
     ∷ row StoredWord (WordBroken (z .reach) (getD (l .pixels) (askedPlace z a) 0))
     ∷ []
 
--- 1 2 3 9 10; "undo the last entry and the word at that entry's place"
+-- "For 10, .. undo the last entry and the word at that entry's place"
 abbrev pub undoRows : State → Lent → List (Row Refusal)
 undoRows s l =
     let z = s .size in
     let entry = getD (l .log) (s .count - 1) 0 in
     row Sizes (SizesOutside z)
     ∷ row Lengths (LentWrong z (sizedAs l))
-    ∷ row LogCount (length (l .log) < s .count)
-    ∷ row LogEmpty (s .count ≡ 0)
+    ∷ row LogCount (CountAbove s l)
+    ∷ row LogEmpty (CountNone s)
     ∷ row StoredWord (EntryBroken z entry ⊎ WordBroken (z .reach) (getD (l .pixels) (placeIn entry) 0))
     ∷ []
 
--- 1 2 3 5 6 11 12
 abbrev pub fillRows : State → LensOf → ℕ → Inputs → Lent → List (Row Refusal)
 fillRows s o shape f l =
     let z = s .size in
     row Sizes (SizesOutside z)
     ∷ row Lengths (LentWrong z (sizedAs l) ⊎ InputsWrong z f)
-    ∷ row LogCount (length (l .log) < s .count)
+    ∷ row LogCount (CountAbove s l)
     ∷ row Value (SomeAbove valueTop (f .values))
     ∷ row Shape (ShapeAbove shape)
     ∷ row Lens (LensOutside o)
     ∷ row Depth (SomeAbove depthTop (f .depths))
     ∷ []
 
--- 1 2
 abbrev pub showRows : State → List ℕ → Views → List (Row Refusal)
 showRows s planes v = row Sizes (SizesOutside (s .size)) ∷ row Lengths (ViewsWrong (s .size) planes v) ∷ []
+
+-- the paper's numbers of them: each list ascends, so that the first row that applies is "the lowest number that applies"
+abbrev pub numbersOf : List (Row Refusal) → List ℕ
+numbersOf rows = map (λ (r : Row Refusal). refusalNumber (r .refusal)) rows
+
+pub record Orders : Type 0 where
+  pub of-open : (z : Size) (l : Lent) → numbersOf (openRows z l) ≡ 1 ∷ 2 ∷ []
+  pub of-put : (s : State) (a : Ask) (l : Lent) → numbersOf (putRows s a l) ≡ 1 ∷ 2 ∷ 3 ∷ 4 ∷ 5 ∷ 6 ∷ 7 ∷ 8 ∷ 10 ∷ []
+  pub of-undo : (s : State) (l : Lent) → numbersOf (undoRows s l) ≡ 1 ∷ 2 ∷ 3 ∷ 9 ∷ 10 ∷ []
+  pub of-fill : (s : State) (o : LensOf) (shape : ℕ) (f : Inputs) (l : Lent)
+      → numbersOf (fillRows s o shape f l) ≡ 1 ∷ 2 ∷ 3 ∷ 5 ∷ 6 ∷ 11 ∷ 12 ∷ []
+  pub of-show : (s : State) (planes : List ℕ) (v : Views) → numbersOf (showRows s planes v) ≡ 1 ∷ 2 ∷ []
 
 -- DEMAND 1
 -- a call that goes by its rows: its answer is theirs, and "after a refusal every lent buffer is as before", the mark count 0 and

@@ -1,6 +1,7 @@
 -- Pixels, their words, and log entries.
-use Prim.Native.Nat.{ℕ, _+_, _*_, _/_, _%_, _^_}
+use Prim.Native.Nat.{ℕ, _+_, _*_, _/_, _%_, _^_, _≤_, _<_}
 use lib.Dec.{leb, ltb}
+use Rattle.kernels.specs.Fixed.{valueTop}
 use Rattle.kernels.specs.Choice.{pick}
 use Rattle.kernels.specs.declared.shape.Shape.the-variants.{Box}
 use Rattle.kernels.specs.declared.shape.ShapeRead.{ShapeRead}
@@ -18,6 +19,12 @@ pub use Rattle.plate.specs.declared.word.EntryRead.the-variants.{Logged,
 -- "Word 0 is the empty pixel."
 abbrev pub empty : Pixel
 empty = record { value = 0; opacity = 0; shape = Box; radius = 0 }
+
+-- a lawful pixel under R: "value v 0 to 4,095, opacity a 0 to 255", and a radius at most its shape's top under R
+pub record Fits (R : ℕ) (p : Pixel) : Type 0 where
+  pub value-fits : p .value ≤ valueTop
+  pub opacity-fits : p .opacity < 256
+  pub radius-fits : p .radius ≤ topUnder (p .shape) R
 
 -- "Its word keeps the value in bits 0 to 11, opacity in 12 to 19, shape in 20 to 23, radius in 24 to 31, zeros above."
 abbrev pub wordOf : Pixel → ℕ

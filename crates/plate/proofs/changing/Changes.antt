@@ -1,18 +1,16 @@
 -- The change that a put or an undo reads is one of a place of the plate and two of its pixels.
-use mathlib.Core.Path.{_≡_, refl, sym, _∙_}
-use mathlib.Core.List.{List}
-use Prim.Native.Nat.{ℕ, _+_, _*_, _-_, _/_, _%_, _^_, _≤_, _<_}
+use mathlib.Core.Path.{_≡_, refl, sym}
+use Prim.Native.Nat.{ℕ, _-_, _/_, _%_, _≤_, _<_}
 use native.Mathlib.Omega.{arith}
 use native.Mathlib.Nat.{mod-lt, div-add-mod'}
 use lib.ListN.{getD, length}
-use Rattle.plate.specs.Fixed.{wordBits}
-use Rattle.plate.specs.Layout.{Size, places}
+use Rattle.plate.specs.Layout.{places}
 use Rattle.plate.specs.Lent.{State, Ask, Lent, sizedAs}
-use Rattle.plate.specs.Word.{Pixel, Unpacked, Whole, Broken, readWord, Entry, EntryRead, Logged, Unreadable, readEntry}
-use Rattle.plate.specs.Refusal.{Refusal, Outcome, Accepted, Refused, askCheck, emptyCheck, putCheck, undoCheck}
-use Rattle.plate.specs.Change.{askedPlace, askedPixel, Change, ChangeRead, ToChange, NoChange, putOver, putReadBy, putRead, undoOver, undoEntry, undoReadBy, undoRead}
+use Rattle.plate.specs.Word.{Unpacked, Whole, Broken, readWord, Entry, EntryRead, Logged, Unreadable, readEntry}
+use Rattle.plate.specs.Refusal.{Refusal, Outcome, Accepted, Refused, putCheck, undoCheck}
+use Rattle.plate.specs.Change.{askedPlace, askedPixel, Change, ToChange, NoChange, putOver, putReadBy, putRead, undoOver, undoEntry, undoReadBy, undoRead}
 use Rattle.plate.specs.code.Bounds.{Fits}
-use Rattle.plate.specs.code.Changing.{Changeable, PutReady, UndoReady}
+use Rattle.plate.specs.code.Changing.{PutReady, UndoReady}
 use Rattle.plate.proofs.numbers.Extents.{row-of}
 use Rattle.plate.proofs.checks.Accepted.{PlateAccepted, plate-accepted, AskAccepted, ask-accepted, asked-fits, some-accepted}
 use Rattle.plate.proofs.words.Words.{read-fits, read-word, word-small, entry-read}

@@ -1,19 +1,19 @@
 -- What a call may count on when its check accepts.
 use mathlib.Core.Path.{_≡_}
+use mathlib.Core.Bool.{true}
 use Prim.Native.Nat.{ℕ, _*_, _≤_, _<_}
+use lib.ListN.{getD}
 use Rattle.kernels.specs.declared.shape.ShapeRead.the-variants.{Known}
 use Rattle.kernels.specs.Shape.{shapeOf, topUnder}
 use Rattle.kernels.specs.declared.lens.Lens.{Lens as LensOf}
 use Rattle.kernels.specs.Lens.{lawfulLens}
-use mathlib.Core.Bool.{true}
-use lib.ListN.{getD}
+use Rattle.kernels.specs.Fixed.{valueTop, depthTop}
 use Rattle.plate.specs.Layout.{Size, padded, places}
 use Rattle.plate.specs.Lent.{State, Sized, Ask, Inputs}
-use Rattle.plate.specs.Refusal.{Outcome, Accepted, Value, Depth, sizesCheck, lentCheck, placeCheck, askCheck, inputsCheck, layerCheck, viewsCheck, showCheck, plateCheck, emptyCheck}
+use Rattle.plate.specs.Refusal.{Outcome, Accepted, Value, Depth, sizesCheck, lentCheck, askCheck, layerCheck, viewsCheck, showCheck, plateCheck, emptyCheck}
 use Rattle.plate.specs.Change.{askedPlace, knownShape, askedPixel}
 use Rattle.plate.specs.code.Bounds.{LawfulSize, LentFor, Fits}
 use Rattle.plate.specs.Fixed.{planesInAll, scratchPlanes}
-use Rattle.kernels.specs.Fixed.{valueTop, depthTop}
 use Rattle.plate.specs.code.Filling.{fillLengths}
 use Rattle.plate.proofs.numbers.Extents.{place-within}
 use Rattle.plate.proofs.checks.Rows.{check-passed}

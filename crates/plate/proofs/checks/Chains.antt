@@ -1,5 +1,5 @@
 -- Checks in a row: the refusal of the first, or else what the next ones say.
-use mathlib.Core.Path.{_≡_, ap, _∙_}
+use mathlib.Core.Path.{_≡_}
 use Prim.Native.Nat.{ℕ}
 use lib.ListN.{length}
 use Rattle.plate.specs.Layout.{Size}

@@ -1,13 +1,12 @@
 -- Each check of specs/Refusal.antt keeps to its row of the table: it refuses where the row's condition holds, and else says what
 -- comes next. The proofs go by what the numbers are, not by the tests that the checks are made of.
 use mathlib.Core.Path.{_≡_, refl, sym, _∙_}
-use mathlib.Core.Bool.{Bool, true, false, not}
+use mathlib.Core.Bool.{true, false}
 use mathlib.Core.Logic.{_≢_, _⊎_, inl, inr, ⊎-elim}
 use mathlib.Core.List.{List, [], _∷_}
 use Prim.Native.Nat.{ℕ, zero, suc, _*_, _≤_, _<_}
 use native.Mathlib.Omega.{arith}
-use lib.Dec.{ltb, eqb}
-use lib.ListN.{getD, length}
+use lib.ListN.{getD}
 use borrow.Author.Needs.{needs}
 use borrow.Author.Tests.{lt-ltb, le-ltb, le-leb, lt-leb, eq-eqb, ne-eqb}
 use Rattle.kernels.specs.declared.shape.Shape.{Shape as ShapeOf}
@@ -22,10 +21,10 @@ use Rattle.kernels.proofs.lenses.ThinLens.{Lawful, lens-true, lawful}
 use Rattle.kernels.specs.Fixed.{shapeCount, valueTop}
 use Rattle.plate.specs.Fixed.{planesInAll, scratchPlanes, sideTop, placesTop, reachTop, logTop}
 use Rattle.plate.specs.Layout.{Size, padded, places}
-use Rattle.plate.specs.Lent.{Sized, Ask, Inputs, Views}
-use Rattle.plate.specs.Refusal.{Refusal, Sizes, Lengths, LogCount, Place, Value, Shape, Radius, LogFull, LogEmpty, Lens, Outcome, Refused, refuseIf, sizesCheck, lengthCheck, lentCheck, inputsCheck, countCheck, placeCheck, valueCheck, shapeCheck, radiusCheck, fullCheck, emptyCheck, anyOf, anyAbove, lensCheck}
+use Rattle.plate.specs.Lent.{Sized, Ask}
+use Rattle.plate.specs.Refusal.{Refusal, Sizes, Lengths, LogCount, Place, Value, Shape, Radius, LogFull, LogEmpty, Lens, refuseIf, sizesCheck, lengthCheck, lentCheck, inputsCheck, countCheck, placeCheck, valueCheck, shapeCheck, radiusCheck, fullCheck, emptyCheck, anyOf, anyAbove, lensCheck}
 use Rattle.plate.specs.Change.{knownShape}
-use Rattle.plate.specs.Table.{SizesOutside, LentWrong, InputsWrong, ViewsWrong, PlaceOutside, SomeAbove, ShapeAbove, RadiusAbove, LensOutside, LawfulSize, LentFor}
+use Rattle.plate.specs.Table.{SizesOutside, LentWrong, PlaceOutside, SomeAbove, ShapeAbove, RadiusAbove, LensOutside, LawfulSize, LentFor}
 use Rattle.plate.proofs.checks.Rows.{Checks, refusing, passing, checks-both}
 
 -- what closes an equation between a chain of tests and its answer

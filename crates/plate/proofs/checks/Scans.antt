@@ -7,7 +7,7 @@ use native.Mathlib.Omega.{arith}
 use native.Mathlib.Nat.{mul-le-mul-right}
 use lib.Dec.{ltb}
 use lib.ListN.{length, getD}
-use borrow.Author.Tests.{ltb-false, le-ltb, le-leb, lt-leb, lt-ltb}
+use borrow.Author.Tests.{le-ltb, le-leb, lt-leb, lt-ltb}
 use Rattle.kernels.specs.Choice.{pick}
 use Rattle.kernels.proofs.numbers.Choices.{by-lt}
 use Rattle.plate.specs.Refusal.{anyOf, anyAbove}

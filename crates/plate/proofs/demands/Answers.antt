@@ -1,9 +1,9 @@
 -- DEMAND 1: every call answers the first refusal of its rows whose condition holds, is accepted where none does, and leaves
 -- everything as it was where it is refused.
-use mathlib.Core.Path.{_≡_, refl, ap, sym, _∙_}
+use mathlib.Core.Path.{_≡_, refl, _∙_}
 use mathlib.Core.Logic.{_⊎_, inl, inr, ⊎-elim}
 use mathlib.Core.List.{List, [], _∷_}
-use Prim.Native.Nat.{ℕ, _-_, _<_}
+use Prim.Native.Nat.{ℕ, _-_}
 use native.Mathlib.Omega.{arith}
 use lib.ListN.{getD, length}
 use Rattle.kernels.specs.Fixed.{valueTop, depthTop}
@@ -12,11 +12,11 @@ use Rattle.kernels.specs.declared.lens.Lens.{Lens as LensOf}
 use Rattle.kernels.specs.Shape.{shapeOf}
 use Rattle.plate.specs.Layout.{Size, sizeFrom}
 use Rattle.plate.specs.Lent.{State, stateOf, Lent, sizedAs, Ask, Inputs, Views}
-use Rattle.plate.specs.Word.{Unpacked, Whole, Broken, readWord, EntryRead, Logged, Unreadable, readEntry}
-use Rattle.plate.specs.Refusal.{Refusal, Sizes, Lengths, LogCount, Place, Value, Shape, Radius, LogFull, LogEmpty, StoredWord, Lens, Depth, Outcome, Accepted, Refused, openCheck, plateCheck, askCheck, putCheck, undoCheck, emptyCheck, fillFirst, layerCheck, fillCheck, viewsCheck, showCheck}
+use Rattle.plate.specs.Word.{readWord, readEntry}
+use Rattle.plate.specs.Refusal.{Refusal, Sizes, Lengths, LogCount, Place, Value, Shape, Radius, LogFull, StoredWord, Lens, Depth, Outcome, Accepted, Refused, openCheck, plateCheck, askCheck, putCheck, undoCheck, emptyCheck, fillFirst, layerCheck, fillCheck, viewsCheck, showCheck}
 use Rattle.plate.specs.Change.{ChangeRead, ToChange, NoChange, askedPlace, putOver, putReadBy, putRead, undoOver, undoEntry, undoReadBy, undoRead}
 use Rattle.plate.specs.Calls.{refused, shows, answerOf, openBy, openCall, putBy, putCall, undoBy, undoCall, fillBy, fillCall, showBy, showCall, changed}
-use Rattle.plate.specs.Table.{AnswersBy, SizesOutside, LentWrong, InputsWrong, ViewsWrong, PlaceOutside, SomeAbove, ShapeAbove, RadiusAbove, WordBroken, EntryBroken, placeIn, LensOutside, LawfulSize, openRows, putRows, undoRows, fillRows, showRows, GoesBy, ShowGoesBy, Demand1, OpenAccepts}
+use Rattle.plate.specs.Table.{AnswersBy, SizesOutside, LentWrong, InputsWrong, ViewsWrong, CountAbove, PlaceOutside, ValueAbove, SomeAbove, ShapeAbove, RadiusAbove, WordBroken, EntryBroken, placeIn, LensOutside, LawfulSize, openRows, putRows, undoRows, fillRows, showRows, GoesBy, ShowGoesBy, Orders, Demand1, OpenAccepts}
 use Rattle.plate.proofs.checks.Rows.{last-row, andThen, answers-then, first-check, checks-both}
 use Rattle.plate.proofs.checks.Conditions.{sizes-checks, lent-checks, inputs-checks, views-checks, count-checks, place-checks, value-checks, shape-checks, radius-checks, full-checks, empty-checks, above-checks, lens-checks}
 use Rattle.plate.proofs.checks.Passed.{sizes-pass, lent-pass}
@@ -59,7 +59,7 @@ outcomeOf (NoChange f) = Refused f
 -- 1 2 3, and what is known where they pass
 plate-first : (s : State) (l : Lent) (rows : List (Row Refusal)) (next : Outcome) → (LawfulSize (s .size) → AnswersBy rows next)
     → AnswersBy
-    (row Sizes (SizesOutside (s .size)) ∷ row Lengths (LentWrong (s .size) (sizedAs l)) ∷ row LogCount (length (l .log) < s .count) ∷ rows)
+    (row Sizes (SizesOutside (s .size)) ∷ row Lengths (LentWrong (s .size) (sizedAs l)) ∷ row LogCount (CountAbove s l) ∷ rows)
     (plateCheck s (sizedAs l) next)
 unfolding plateCheck
 plate-first s l rows next rest =
@@ -117,7 +117,7 @@ put-untouched (NoChange g) s l f e = rw (same-refusal f g e)
 ask-first : (z : Size) (n room : ℕ) (a : Ask)
     → AnswersBy
     (row Place (PlaceOutside z (a .x) (a .y))
-    ∷ row Value (valueTop < a .value)
+    ∷ row Value (ValueAbove (a .value))
     ∷ row Shape (ShapeAbove (a .shape))
     ∷ row Radius (RadiusAbove (z .reach) (shapeOf (a .shape)) (a .radius))
     ∷ row LogFull (n ≡ room)
@@ -247,6 +247,16 @@ demand-1 =
       undo-by = undo-goes;
       fill-by = fill-goes;
       show-by = show-goes;
+    }
+
+pub orders : Orders
+orders =
+    record {
+      of-open = λ z l. refl;
+      of-put = λ s a l. refl;
+      of-undo = λ s l. refl;
+      of-fill = λ s o k f l. refl;
+      of-show = λ s planes v. refl;
     }
 
 -- PLATES THERE ARE

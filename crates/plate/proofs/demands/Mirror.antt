@@ -1,7 +1,7 @@
 -- The invariant of a list of calls: the plate mirrors the notebook. Put and undo keep it, and report what the notebook reports.
 use mathlib.Core.Path.{_≡_, refl, ap, sym, _∙_}
 use mathlib.Core.List.{List, [], _∷_, map}
-use Prim.Native.Nat.{ℕ, zero, suc, _+_, _*_, _-_, _^_, _≤_, _<_}
+use Prim.Native.Nat.{ℕ, zero, suc, _+_, _*_, _-_, _≤_, _<_}
 use native.Mathlib.Omega.{arith}
 use lib.ListN.{getD, set, length, length-set, length-map}
 use lib.Seq.{getD-set-same, getD-set-other}

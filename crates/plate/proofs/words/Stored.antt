@@ -1,20 +1,19 @@
 -- 10: a stored word or entry is read where it breaks nothing, and only there.
-use mathlib.Core.Path.{_≡_, refl, sym, _∙_}
+use mathlib.Core.Path.{_≡_, refl}
 use mathlib.Core.Logic.{_⊎_, inl, inr, ⊎-elim}
 use Prim.Native.Nat.{ℕ, _*_, _/_, _%_, _^_, _≤_, _<_}
 use native.Mathlib.Omega.{arith}
 use native.Mathlib.Nat.{mod-lt, mul-comm, div-lt-iff-lt-mul}
-use lib.Dec.{leb, ltb}
 use borrow.Author.Tests.{lt-ltb, le-ltb, le-leb, lt-leb}
 use Rattle.kernels.specs.Fixed.{shapeCount}
 use Rattle.kernels.specs.declared.shape.Shape.{Shape as ShapeOf}
-use Rattle.kernels.specs.declared.shape.ShapeRead.the-variants.{Known, Unknown}
+use Rattle.kernels.specs.declared.shape.ShapeRead.the-variants.{Known}
 use Rattle.kernels.specs.Shape.{shapeOf, topUnder}
 use Rattle.kernels.proofs.numbers.Choices.{by-lt}
 use Rattle.plate.specs.Fixed.{wordBits}
 use Rattle.plate.specs.Layout.{Size, places}
-use Rattle.plate.specs.Word.{Pixel, Unpacked, Whole, Broken, readWord, Entry, EntryRead, Logged, Unreadable, readEntry}
-use Rattle.plate.specs.Table.{PlaceOutside, ShapeAbove, RadiusAbove, WordBroken, EntryBroken, placeIn, LawfulSize}
+use Rattle.plate.specs.Word.{Pixel, Whole, Broken, readWord, Entry, Logged, Unreadable, readEntry}
+use Rattle.plate.specs.Table.{PlaceOutside, RadiusAbove, WordBroken, EntryBroken, placeIn, LawfulSize}
 use Rattle.plate.proofs.numbers.Extents.{row-of}
 use Rattle.plate.proofs.checks.Conditions.{shape-named, place-apart}
 

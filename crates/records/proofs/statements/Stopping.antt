@@ -1,10 +1,10 @@
 -- A record stops a run by the first of its rows of the table that applies, and where none does the run goes on.
-use mathlib.Core.Path.{_≡_, refl, sym, _∙_}
+use mathlib.Core.Path.{_≡_, refl, sym}
 use mathlib.Core.Logic.{_⊎_, inl, inr, ⊎-elim}
 use mathlib.Core.List.{List, [], _∷_}
 use Prim.Native.Nat.{ℕ, zero, suc, _+_, _≤_, _<_}
 use native.Mathlib.Omega.{arith}
-use lib.ListN.{getD, length, take, drop}
+use lib.ListN.{getD, length, take}
 use borrow.Author.Tests.{lt-ltb, le-ltb}
 use Rattle.kernels.specs.Rows.{FirstOf}
 use Rattle.kernels.specs.declared.shape.ShapeRead.{ShapeRead}
@@ -22,7 +22,7 @@ use Rattle.plate.specs.Notebook.{Book, openBook}
 use Rattle.plate.proofs.checks.Rows.{by-check}
 use Rattle.plate.proofs.checks.Conditions.{sizes-checks}
 use Rattle.records.specs.Fixed.{cellsTop, logRoom, openBody, putBody}
-use Rattle.records.specs.Record.{Record, Open, Undo, Show, Stop, Sizes, Kind, Body, Order, Cells, BodyLength, Bytes, NoKind, bodyLength, putRecord, recordOf, itemsBy}
+use Rattle.records.specs.Record.{Record, Open, Undo, Show, Stop, Sizes, Kind, Body, Order, Cells, Bytes, NoKind, bodyLength, putRecord, recordOf, itemsBy}
 use Rattle.records.specs.Run.{Desk, closed, opened, stop, go, opens, act, stopText, textFrom}
 use Rattle.records.specs.Stops.{KindUnknown, BodyShort, OutOfOrder, openSize, recordRows, GoesOnAfter, StopsByRows}
 use Rattle.records.proofs.reading.Bodies.{front-open}

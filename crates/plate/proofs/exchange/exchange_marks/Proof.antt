@@ -2,8 +2,6 @@
 -- length.
 use mathlib.Core.Path.{_≡_, refl, _∙_}
 use Prim.Native.Nat.{ℕ}
-use denote.Ref.{now}
-use lib.ListN.{length}
 use borrow.Author.Needs.{needs}
 use Rattle.plate.specs.Word.{Pixel}
 use Rattle.plate.specs.Marks.{exchanged}
