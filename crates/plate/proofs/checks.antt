@@ -1,4 +1,5 @@
--- What checks in a row say, and what a call may count on when they accept.
+-- Answers by rows of the table of refusals, that each check keeps to its row, what checks in a row say, and what a call may count
+-- on when they accept.
 pub mod Rows
 pub mod Conditions
 pub mod Chains

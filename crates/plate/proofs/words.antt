@@ -1,4 +1,4 @@
--- The pixel word and the log entry: what is packed is read back.
+-- The pixel word and the log entry: what is packed is read back, and what is stored is read where it breaks nothing.
 pub mod Fields
 pub mod Words
 pub mod Stored
