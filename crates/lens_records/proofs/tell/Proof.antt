@@ -1,6 +1,6 @@
 -- What a call writes is no longer than its buffer, and what it takes is some of the part.
 use Rattle.records.proofs.answering.Handing.{advanced-room}
-use Rattle.records.proofs.statements.AnyCut.{call-goes-on}
+use Rattle.records.proofs.running.Advancing.{call-goes-on}
 use borrow.Author.Needs.{needs}
 use Rattle.lens_records.proofs.tell.Statement.{statement}
 use Rattle.lens_records.proofs.tell.Tie as tie

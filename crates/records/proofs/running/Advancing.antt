@@ -10,7 +10,7 @@ use lib.Seq.{take-suc, drop-cons, drop-length}
 use Rattle.kernels.proofs.numbers.Choices.{by-lt}
 use Rattle.records.specs.Text.{withText}
 use Rattle.records.specs.Fixed.{fullFrom}
-use Rattle.records.specs.Machine.{Machine, Buffers, Progress, fed, fedOn, feedOf, feedAll, takes, AdvanceLeft, advanceLeft, advancedBy, advanceCall}
+use Rattle.records.specs.Machine.{Machine, Buffers, Progress, fed, fedOn, feedOf, feedAll, takes, Advanced, AdvanceLeft, advanceLeft, advancedBy, advanceCall, Taking, GoesOn}
 use Rattle.records.specs.code.Handed.{Handed, handed, handAfter}
 use Rattle.records.proofs.writing.Slices.{written-none, written-two, written-fits}
 
@@ -36,17 +36,28 @@ takes-next : (f : Progress) (x : ℕ) (xs : List ℕ) → length (f .text) ≤ f
 unfolding takes
 takes-next f x xs h = rw (le-ltb fullFrom (length (f .text)) h)
 
-pub takes-some : (f : Progress) (xs : List ℕ) → length (f .text) ≤ fullFrom → 0 < length xs → 0 < takes f xs
+takes-some : (f : Progress) (xs : List ℕ) → length (f .text) ≤ fullFrom → 0 < length xs → 0 < takes f xs
 takes-some f [] h some = absurd (omega arith)
 takes-some f (x ∷ xs) h some = rw (takes-next f x xs h) (omega arith)
 
-pub takes-within : (f : Progress) (xs : List ℕ) → takes f xs ≤ length xs
+takes-within : (f : Progress) (xs : List ℕ) → takes f xs ≤ length xs
 unfolding takes
 takes-within f [] = omega arith
 takes-within f (x ∷ xs) =
     by-lt fullFrom (length (f .text))
     (λ h. rw (lt-ltb fullFrom (length (f .text)) h) (omega arith))
     (λ h. rw (le-ltb fullFrom (length (f .text)) h) (omega (arith, takes-within (fedOn f x) xs)))
+
+-- EACH CALL GOES ON
+pub calls-go-on : GoesOn
+unfolding advanceCall
+calls-go-on m part b out =
+    record { some = takes-some (fed m b []) part (omega arith); within = takes-within (fed m b []) part }
+
+-- said of a call that has been made
+pub call-goes-on : {a : Advanced} {b : Buffers} {after : List ℕ} (m : Machine) (part : List ℕ) (held : Buffers) (out : List ℕ)
+    → advanceLeft a b after ≡ advanceCall m part held out → Taking (a .consumed) part
+call-goes-on m part held out e = rw (ap (λ (l : AdvanceLeft). l .answer .consumed) e) (calls-go-on m part held out)
 
 -- WHERE A CALL STANDS
 -- after i bytes, with n bytes of text: what it would leave there, and what there is still to take

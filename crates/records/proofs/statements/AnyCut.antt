@@ -6,19 +6,8 @@ use native.Mathlib.Omega.{arith}
 use lib.ListN.{length, take, drop, length-drop, take-append-drop}
 use lib.Seq.{take-append-seam}
 use Rattle.records.specs.Text.{withText}
-use Rattle.records.specs.Machine.{Machine, Buffers, Progress, fed, fedThen, feedOf, feedAll, finishOf, takes, Advanced, AdvanceLeft, advanceLeft, advanceCall, finishCall, fresh, zeroed, machineText, Calling, telling, callsOn, callsOnParts, callsText, joined, AnyCut, Taking, GoesOn}
-use Rattle.records.proofs.running.Advancing.{fed-both, takes-some, takes-within}
-
--- EACH CALL GOES ON
-pub goes-on : GoesOn
-unfolding advanceCall
-goes-on m part b out =
-    record { some = takes-some (fed m b []) part (omega arith); within = takes-within (fed m b []) part }
-
--- said of a call that has been made
-pub call-goes-on : {a : Advanced} {b : Buffers} {after : List ℕ} (m : Machine) (part : List ℕ) (held : Buffers) (out : List ℕ)
-    → advanceLeft a b after ≡ advanceCall m part held out → Taking (a .consumed) part
-call-goes-on m part held out e = rw (ap (λ (l : AdvanceLeft). l .answer .consumed) e) (goes-on m part held out)
+use Rattle.records.specs.Machine.{Progress, fed, fedThen, feedOf, feedAll, finishOf, takes, advanceCall, finishCall, fresh, zeroed, machineText, Calling, telling, callsOn, callsOnParts, callsText, joined, AnyCut}
+use Rattle.records.proofs.running.Advancing.{fed-both, calls-go-on}
 
 -- A CALL
 -- what is written is the text
@@ -60,7 +49,7 @@ part-is (suc n) c (x ∷ xs) h =
     let l = advanceCall (c .machine) part (c .buffers) (c .out) in
     let k = l .answer .consumed in
     part-is n (telling (c .told) l) (drop k part)
-    (omega (arith, length-drop k part, goes-on (c .machine) part (c .buffers) (c .out) .some (omega arith)))
+    (omega (arith, length-drop k part, calls-go-on (c .machine) part (c .buffers) (c .out) .some (omega arith)))
     ∙ ap (λ (f : Progress). feedAll f (drop k part)) (call-is c part)
     ∙ sym (fed-both (soFar c) (take k part) (drop k part))
     ∙ ap (feedAll (soFar c)) (take-append-drop k part)

@@ -4,7 +4,7 @@ use native.Mathlib.Omega.{arith}
 use lib.ListN.{length}
 use mathlib.Core.Path.{_≡_, refl}
 use Rattle.records.specs.Fixed.{bufferRoom}
-use Rattle.records.specs.Machine.{Buffers, buffers}
+use Rattle.records.specs.Machine.{buffers}
 use Rattle.records.proofs.running.Advancing.{Reached, reached-start, reached-next, reached-full, reached-end}
 use borrow.Author.Needs.{needs}
 use Rattle.records.proofs.advance.advance.Statement.{statement}
