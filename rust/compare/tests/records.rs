@@ -6,15 +6,20 @@
 
 use std::env;
 use std::fs;
-use std::io::Write;
+use std::io::{self, ErrorKind, Write};
 use std::path::{Path, PathBuf};
 use std::process::{Command, Stdio};
+use std::thread;
 
 use compare::random::Random;
 use compare::{repository, say};
 use reference::records::text;
 
 const STRINGS: usize = 1_500;
+
+/// Bytes of a long stream: the program reads at most 65,536 at a time, so about a hundred
+/// times.
+const STREAM: usize = 6_500_000;
 
 fn program() -> Option<PathBuf> {
     if let Some(program) = env::var_os("LENS_RECORDS") {
@@ -24,20 +29,29 @@ fn program() -> Option<PathBuf> {
     program.is_file().then_some(program)
 }
 
-fn run(program: &Path, input: &[u8]) -> String {
+/// Runs the program on an input that is written in parts of these sizes: its text, and
+/// whether all of the input could be written.
+fn run(program: &Path, input: &[u8], sizes: &[usize]) -> (String, io::Result<()>) {
     let mut child = Command::new(program)
         .stdin(Stdio::piped())
         .stdout(Stdio::piped())
         .spawn()
         .unwrap_or_else(|error| panic!("{} does not start: {error}", program.display()));
     let mut stdin = child.stdin.take().expect("piped");
-    let input = input.to_vec();
-    // A run that stops early leaves the rest of its input unread, and the pipe breaks.
-    let writer = std::thread::spawn(move || stdin.write_all(&input).unwrap_or(()));
-    let output = child.wait_with_output().expect("the program ends");
-    writer.join().expect("the writer ends");
+    let (output, written) = thread::scope(|scope| {
+        let writer = scope.spawn(move || {
+            let mut rest = input;
+            sizes.iter().try_for_each(|&size| {
+                let (part, after) = rest.split_at(size);
+                rest = after;
+                stdin.write_all(part)
+            })
+        });
+        let output = child.wait_with_output().expect("the program ends");
+        (output, writer.join().expect("the writer ends"))
+    });
     assert!(output.status.success(), "the program failed: {}", output.status);
-    String::from_utf8(output.stdout).expect("the text is plain")
+    (String::from_utf8(output.stdout).expect("the text is plain"), written)
 }
 
 /// The paper's example, and its examples of 13 to 16.
@@ -103,17 +117,40 @@ fn random_string(random: &mut Random) -> Vec<u8> {
     string
 }
 
-/// More input than a pipe or a buffer holds: puts and undos, a show now and then.
-fn long_string(random: &mut Random) -> Vec<u8> {
-    let mut string = open(5, 4, 3);
-    for record in 0..40_000 {
+/// A long stream: puts and undos, and a show once in so many records.
+fn stream(shown_once_in: usize, random: &mut Random) -> Vec<u8> {
+    let mut stream = open(5, 4, 3);
+    while stream.len() < STREAM {
         match random.below(2) {
-            _ if record % 500 == 0 => string.push(4),
-            0 => string.extend(put(5, 4, 3, random)),
-            _ => string.push(3),
+            _ if random.once_in(shown_once_in) => stream.push(4),
+            0 => stream.extend(put(5, 4, 3, random)),
+            _ => stream.push(3),
         }
     }
-    string
+    stream
+}
+
+/// Cuts an input anywhere: parts of one byte, of a few, and of more than a pipe holds.
+fn cut(input: &[u8], random: &mut Random) -> Vec<usize> {
+    let mut sizes = Vec::new();
+    let mut left = input.len();
+    while left > 0 {
+        let most = if random.once_in(40) { 200_000 } else { random.pick(&[1, 30, 2_000]) };
+        let size = random.within(1, most).min(left);
+        sizes.push(size);
+        left -= size;
+    }
+    sizes
+}
+
+/// A plate of 256 pixels, and shows of it in few bytes of input.
+fn shows(count: usize, random: &mut Random) -> Vec<u8> {
+    let mut input = open(16, 16, 0);
+    for _ in 0..60 {
+        input.extend(put(16, 16, 0, random));
+    }
+    input.extend(vec![4; count]);
+    input
 }
 
 fn put(width: usize, height: usize, reach: usize, random: &mut Random) -> Vec<u8> {
@@ -138,17 +175,78 @@ fn texts_agree() {
     };
     let random = &mut Random::new(51);
     let mut strings = examples();
-    strings.push(long_string(random));
     strings.extend((0..STRINGS).map(|_| random_string(random)));
     let (mut count, mut lines, mut stopped) = (0, 0, 0);
     for string in strings {
         let expected = text(&string);
-        assert_eq!(run(&program, &string), expected, "on {string:02x?}");
+        // A run that stops early leaves the rest of its input unread, and the pipe may break.
+        let (told, _) = run(&program, &string, &[string.len()]);
+        assert_eq!(told, expected, "on {string:02x?}");
         count += 1;
         lines += expected.lines().count();
         stopped += usize::from(expected.contains("stopped"));
     }
     say(&format!("records: {count} byte strings, {stopped} stopped, {lines} lines compared"));
+}
+
+/// A text of many megabytes, held against the reference's.
+fn assert_same(told: &str, expected: &str, which: &str) {
+    if told == expected {
+        return;
+    }
+    let at = told.bytes().zip(expected.bytes()).take_while(|(one, other)| one == other).count();
+    let near = |text: &str| text[at.min(text.len())..text.len().min(at + 40)].to_string();
+    panic!(
+        "{which}: {} bytes of text for {}; from byte {at} on {:?} for {:?}",
+        told.len(),
+        expected.len(),
+        near(told),
+        near(expected),
+    );
+}
+
+/// Streams that take the program many reads, and texts that fill its buffer many times.
+#[test]
+fn streams_agree() {
+    let Some(program) = program() else {
+        say("records: no target/bin/lens_records, so no stream was compared");
+        return;
+    };
+    let random = &mut Random::new(52);
+    let whole = [
+        ("a stream with many shows", stream(8, random)),
+        ("a stream with few shows", stream(3_000, random)),
+        ("shows in few bytes", shows(15_000, random)),
+    ];
+    for (which, input) in whole {
+        let expected = text(&input);
+        for sizes in [cut(&input, random), vec![input.len()]] {
+            let (told, written) = run(&program, &input, &sizes);
+            assert_same(&told, &expected, which);
+            written.unwrap_or_else(|error| panic!("{which}: not all was read: {error}"));
+            let (bytes, parts) = (input.len(), sizes.len());
+            say(&format!(
+                "records: {which}: {bytes} bytes in {parts} parts, {} of text",
+                told.len()
+            ));
+        }
+    }
+    stopped_stream_agrees(&program, random);
+}
+
+/// A stream that stops early: the program ends, and the pipe breaks.
+fn stopped_stream_agrees(program: &Path, random: &mut Random) {
+    let mut input = stream(8, random);
+    let third = STREAM / 3;
+    // The longest record has ten bytes, so one of these is a kind.
+    input[third..third + 10].fill(9);
+    let expected = text(&input);
+    assert!(expected.contains("stopped 13"), "the stream does not stop");
+    let (told, written) = run(program, &input, &cut(&input, random));
+    assert_same(&told, &expected, "a stream that stops");
+    let error = written.expect_err("what comes after a stop is not read");
+    assert_eq!(error.kind(), ErrorKind::BrokenPipe);
+    say(&format!("records: a stream that stops: {} of text", told.len()));
 }
 
 /// The cases that the program `records_cases` runs, each with its name.
