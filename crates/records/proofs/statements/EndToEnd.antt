@@ -1,7 +1,7 @@
 -- FROM BYTES TO TEXT: what the machine writes is the text of the paper's rules, by induction over the records of the input.
-use mathlib.Core.Path.{_≡_, refl, ap, sym, _∙_}
+use mathlib.Core.Path.{_≡_, refl, ap, _∙_}
 use mathlib.Core.Bool.{false}
-use mathlib.Core.List.{List, [], _∷_, _++_, append-nil}
+use mathlib.Core.List.{List, [], _∷_, append-nil}
 use Prim.Native.Nat.{ℕ, zero, suc, _+_, _-_, _^_, _≤_, _<_}
 use native.Mathlib.Omega.{arith}
 use borrow.Author.Tests.{lt-ltb, le-ltb}
@@ -13,7 +13,7 @@ use Rattle.plate.specs.Notebook.{Book}
 use Rattle.plate.specs.Lists.{Byte, codes}
 use Rattle.records.specs.Record.{Kind, Bytes, NoKind, bodyLength, recordOf, next, withBody, itemsBy, itemsOf}
 use Rattle.records.specs.Run.{Desk, closed, opened, Act, stop, go, act, stopText, thenText, textFrom, paperText}
-use Rattle.records.specs.Machine.{Stage, Closed, machine, Buffers, Did, recordOn, Progress, doneBy, settledOf, begunBy, begunOf, takenOf, fedBy, fedTaken, endedAt, feedOf, endText, fresh, zeroed, machineText, EndToEnd}
+use Rattle.records.specs.Machine.{Stage, Closed, machine, Buffers, Did, recordOn, Progress, doneBy, settledOf, begunBy, begunOf, takenOf, fedBy, fedTaken, endedAt, feedOf, endText, zeroed, EndToEnd}
 use Rattle.records.proofs.running.Feeding.{run, onward, machine-text-run, run-ended, fed-live, last-live, filled, filled-take, body-read}
 use Rattle.records.proofs.standing.Invariant.{RightLengths, Stands, at-closed, at-open, Agrees}
 use Rattle.records.proofs.standing.Acts.{acts-agree}
