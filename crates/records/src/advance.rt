@@ -61,6 +61,18 @@ fn step(
     }
 }
 
+// What so many bytes of a part leave.
+fn left(fed: Fed, consumed: usize) -> Advanced
+    ensures { λ r. ⌜ r ≡ record { machine = fed .machine; consumed = consumed; written = fed .written } ⌝ }
+{
+    let machine = fed.machine;
+    Advanced {
+        machine: machine,
+        consumed: consumed,
+        written: fed.written,
+    }
+}
+
 // A part of the input: the machine after the bytes that were taken, with their text at the start of `out`. All are taken, unless
 // the text of one record more might not fit; then the rest is for the next call.
 pub fn advance(
@@ -82,12 +94,7 @@ pub fn advance(
     };
     for at in 0..input.len() {
         if FULL < fed.written {
-            let machine = fed.machine;
-            return Advanced {
-                machine: machine,
-                consumed: at,
-                written: fed.written,
-            };
+            return left(fed, at);
         }
         fed = step(
             fed,
@@ -101,10 +108,5 @@ pub fn advance(
             out,
         );
     }
-    let machine = fed.machine;
-    Advanced {
-        machine: machine,
-        consumed: input.len(),
-        written: fed.written,
-    }
+    left(fed, input.len())
 }

@@ -33,10 +33,13 @@ loop-holds c =
     let a = c .before .args in
     (omega arith, refl, reached-start (a .m) _ (a .input .now) (a .out .now))
 
+left-requires : tie.Need-left-requires Inv-loop μ-loop
+left-requires c κs = search needs
+
 returns : tie.Need-returns Inv-loop μ-loop
 returns c =
     let h = c .before .before .before in
-    reached-full (h .before .loop .inv .2) (c .before .if1 .taken)
+    rw (c .left .ensures) (reached-full (h .before .loop .inv .2) (c .before .if1 .taken))
 
 shared-slice-read-step : tie.Need-shared-slice-read-step Inv-loop μ-loop
 shared-slice-read-step c = search needs
@@ -64,10 +67,13 @@ loop-again c =
           (omega (arith, l .inv .1, c .step .kept .1 .1 .1 .1 .1 .1 .1 .1 .0)),
     )
 
+left-requires-2 : tie.Need-left-requires-2 Inv-loop μ-loop
+left-requires-2 c κs = search needs
+
 returns-2 : tie.Need-returns-2 Inv-loop μ-loop
 returns-2 c =
     let h = c .before in
-    reached-end (h .before .loop .inv .2) (h .loop-test .left) (h .before .loop .inv .0)
+    rw (c .left2 .ensures) (reached-end (h .before .loop .inv .2) (h .loop-test .left) (h .before .loop .inv .0))
 
 pub advance-spec : {M : Type 1} → statement M
 advance-spec =
@@ -76,10 +82,12 @@ advance-spec =
     Inv-loop
     μ-loop
     loop-holds
+    left-requires
     returns
     shared-slice-read-step
     step-requires
     add-at
     loop-less
     loop-again
+    left-requires-2
     returns-2)
