@@ -16,7 +16,10 @@ use records::fixed::Values;
 use records::machine::Machine;
 ghost use Prim.Native.Nat.{_≤_};
 ghost use lib.ListN.{length};
-ghost use Rattle.records.specs.Machine.{Taking};
+ghost use mathlib.Core.Path.{_≡_};
+ghost use mathlib.Core.Bool.{true};
+ghost use Rattle.records.specs.Machine.{atEntry, atExit};
+ghost use Rattle.lens_records.specs.Feeding.{FedTo, FedFront};
 
 // A call of advance, its text written: the machine, how many bytes were taken, and whether the write went well.
 struct Told {
@@ -51,7 +54,7 @@ fn tell(
     mattes: &mut Mattes,
     text: &mut Text,
 ) -> Told
-    ensures { λ r. ⌜ Taking (r .consumed) (now (part .entry)) ⌝ }
+    ensures { λ r. ⌜ FedFront machine (atEntry planes pixels log scratch values mattes) (now (part .entry)) (r .consumed) (r .machine) (atExit planes pixels log scratch values mattes) ⌝ }
 {
     let next = advance(
         machine,
@@ -73,7 +76,7 @@ fn tell(
     }
 }
 
-// The bytes of one read, handed on from where the call before stopped until they are consumed.
+// The bytes of one read, handed on from where the call before stopped until they are consumed: unless a write fails, all of them.
 fn part(
     machine: Machine,
     input: &[u8],
@@ -84,7 +87,9 @@ fn part(
     values: &mut Values,
     mattes: &mut Mattes,
     text: &mut Text,
-) -> Told {
+) -> Told
+    ensures { λ r. ⌜ (r .well ≡ true → FedTo machine (atEntry planes pixels log scratch values mattes) (now (input .entry)) (r .machine) (atExit planes pixels log scratch values mattes)) ⌝ }
+{
     let mut now = Told {
         machine: machine,
         consumed: 0,

@@ -1,14 +1,24 @@
--- Each call takes a byte or more of what is left, and no more than is left.
-use Prim.Native.Nat.{_-_, _≤_}
+-- Each call takes a byte or more of what is left, and no more than is left; after it a longer front of the part is fed, and at the
+-- end all of it.
+use mathlib.Core.Path.{_≡_, sym, _∙_}
+use mathlib.Core.Bool.{true, false}
+use Prim.Native.Nat.{ℕ, _-_, _≤_}
 use native.Mathlib.Omega.{arith}
-use lib.ListN.{length}
+use lib.ListN.{length, take, drop, length-drop}
+use lib.Seq.{take-all}
+use borrow.Author.Tests.{not-true}
 use borrow.Author.Needs.{needs}
+use Rattle.records.specs.Machine.{buffers}
+use Rattle.lens_records.specs.Feeding.{FedTo}
+use Rattle.lens_records.proofs.feeding.Fronts.{fed-none, fed-on}
 use Rattle.lens_records.proofs.part.Statement.{statement}
 use Rattle.lens_records.proofs.part.Tie as tie
 
 abbrev Inv-loop : tie.InvT-loop
 Inv-loop input planes₀ pixels₀ log₀ scratch₀ values₀ mattes₀ text₀ now₀ i₀ planes pixels log scratch values mattes text now i =
-    i ≤ length input
+    (i ≤ length input)
+    × FedTo (now₀ .machine) (buffers planes₀ pixels₀ log₀ scratch₀ values₀ mattes₀) (take i input)
+    (now .machine) (buffers planes pixels log scratch values mattes)
 
 abbrev μ-loop : tie.MeasureT-loop
 μ-loop input planes₀ pixels₀ log₀ scratch₀ values₀ mattes₀ text₀ now₀ i₀ planes pixels log scratch values mattes text now i =
@@ -18,11 +28,14 @@ abbrev μ-loop : tie.MeasureT-loop
 abbrev inside : tie.After-struct-known2 Inv-loop μ-loop → tie.In-loop Inv-loop μ-loop
 inside c = c .before .before .before .before .before .before .before .before .before .before .before .before .before
 
+true-not : {P : Type 0} → true ≡ false → P
+true-not e = let z : _≡_ {A = ℕ} 0 1 = cc in absurd (omega arith)
+
 loop-holds : tie.Need-loop-holds Inv-loop μ-loop
-loop-holds c = search needs
+loop-holds c = (search needs, fed-none _ _)
 
 returns : tie.Need-returns Inv-loop μ-loop
-returns c = search needs
+returns c = λ e. true-not (sym e ∙ not-true _ (c .if1 .taken))
 
 sub-tell : tie.Need-sub-tell Inv-loop μ-loop
 sub-tell c = search needs
@@ -41,14 +54,26 @@ add-at c = omega (arith, inside c .loop-test .taken, inside c .before .before .b
 
 loop-less : tie.Need-loop-less Inv-loop μ-loop
 loop-less c =
-    let more = c .before .tell .ensures .some (omega (arith, inside c .loop-test .taken)) in
+    let more = c .before .tell .ensures .taking .some (omega (arith, inside c .loop-test .taken)) in
     omega (arith, more, inside c .loop-test .taken)
 
 loop-again : tie.Need-loop-again Inv-loop μ-loop
-loop-again c = search needs
+loop-again c =
+    let looped = inside c .before in
+    let input = looped .before .before .args .input .now in
+    let at = looped .loop .at in
+    let fed = looped .loop .inv in
+    let told = c .before .tell .ensures in
+    let rest : take (length input - at) (drop at input) ≡ drop at input = take-all (length input - at) (drop at input) (omega (arith, length-drop at input)) in (
+      omega (arith, rw rest at (told .taking .within), length-drop at input, fed .0),
+      fed-on _ _ input at (c .before .tell .result .consumed) _ _ _ _ (fed .1) (rw rest at (told .fed-to)),
+    )
 
 returns-2 : tie.Need-returns-2 Inv-loop μ-loop
-returns-2 c = search needs
+returns-2 c =
+    let looped = c .before in
+    let input = looped .before .before .args .input .now in
+    λ e. rw (take-all (looped .loop .at) input (omega (arith, c .loop-test .left))) at (looped .loop .inv .1)
 
 pub part-spec : {M : Type 1} → statement M
 part-spec =

@@ -1,7 +1,7 @@
--- What a call writes is no longer than its buffer, and what it takes is some of the part.
+-- What a call writes is no longer than its buffer, and what it took is fed.
 use Rattle.records.proofs.answering.Handing.{advanced-room}
-use Rattle.records.proofs.running.Advancing.{call-goes-on}
 use borrow.Author.Needs.{needs}
+use Rattle.lens_records.proofs.feeding.Fronts.{call-fed}
 use Rattle.lens_records.proofs.tell.Statement.{statement}
 use Rattle.lens_records.proofs.tell.Tie as tie
 
@@ -12,7 +12,7 @@ write-requires : tie.Need-write-requires
 write-requires c κs = advanced-room _ _ _ _ (c .before .before .before .advance .ensures)
 
 returns : tie.Need-returns
-returns c = call-goes-on _ _ _ _ (c .before .before .before .before .advance .ensures)
+returns c = call-fed _ _ _ _ (c .before .before .before .before .advance .ensures)
 
 pub tell-spec : {M : Type 1} → statement M
 tell-spec = tie.close (tie.spec advance-requires write-requires returns)

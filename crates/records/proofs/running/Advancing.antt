@@ -1,6 +1,6 @@
 -- A part of the input, byte after byte: where a call stands after so many of them, and what it has left when it is done.
 use mathlib.Core.Path.{_≡_, refl, ap, sym, _∙_}
-use mathlib.Core.List.{List, [], _∷_, _++_}
+use mathlib.Core.List.{List, [], _∷_, _++_, append-assoc}
 use Prim.Native.Nat.{ℕ, suc, _+_, _≤_, _<_}
 use native.Mathlib.Numerals.{add-one}
 use native.Mathlib.Omega.{arith}
@@ -10,7 +10,7 @@ use lib.Seq.{take-suc, drop-cons, drop-length}
 use Rattle.kernels.proofs.numbers.Choices.{by-lt}
 use Rattle.records.specs.Text.{withText}
 use Rattle.records.specs.Fixed.{fullFrom}
-use Rattle.records.specs.Machine.{Machine, Buffers, Progress, fed, fedOn, feedOf, feedAll, takes, Advanced, AdvanceLeft, advanceLeft, advancedBy, advanceCall, Taking, GoesOn}
+use Rattle.records.specs.Machine.{Machine, Buffers, Progress, fed, fedThen, fedOn, feedOf, feedAll, takes, Advanced, AdvanceLeft, advanceLeft, advancedBy, advanceCall, Taking, GoesOn}
 use Rattle.records.specs.code.Handed.{Handed, handed, handAfter}
 use Rattle.records.proofs.writing.Slices.{written-none, written-two, written-fits}
 
@@ -19,6 +19,14 @@ pub fed-both : (f : Progress) (xs ys : List ℕ) → feedAll f (xs ++ ys) ≡ fe
 unfolding feedAll
 fed-both f [] ys = refl
 fed-both f (x ∷ xs) ys = fed-both (fedOn f x) xs ys
+
+-- a text from before stays before
+pub fed-after : (t : List ℕ) (f : Progress) (xs : List ℕ) → feedAll (fedThen t f) xs ≡ fedThen t (feedAll f xs)
+unfolding feedAll
+fed-after t f [] = refl
+fed-after t f (x ∷ xs) =
+    let g = feedOf (f .machine) x (f .buffers) in
+    rw (append-assoc t (f .text) (g .text)) (fed-after t (fedThen (f .text) g) xs)
 
 -- a byte more
 fed-next : (f : Progress) (input : List ℕ) (i : ℕ) → i < length input

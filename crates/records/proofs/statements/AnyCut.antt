@@ -1,27 +1,19 @@
 -- IN ANY CUT: a part that is handed on until it is consumed leaves what its bytes leave, fed one after another.
 use mathlib.Core.Path.{_≡_, refl, ap, sym, _∙_}
-use mathlib.Core.List.{List, [], _∷_, _++_, append-assoc, append-nil}
+use mathlib.Core.List.{List, [], _∷_, _++_, append-nil}
 use Prim.Native.Nat.{ℕ, zero, suc, _≤_}
 use native.Mathlib.Omega.{arith}
 use lib.ListN.{length, take, drop, length-drop, take-append-drop}
 use lib.Seq.{take-append-seam}
 use Rattle.records.specs.Text.{withText}
-use Rattle.records.specs.Machine.{Progress, fed, fedThen, feedOf, feedAll, finishOf, takes, advanceCall, finishCall, fresh, zeroed, machineText, Calling, telling, callsOn, callsOnParts, callsText, joined, AnyCut}
-use Rattle.records.proofs.running.Advancing.{fed-both, calls-go-on}
+use Rattle.records.specs.Machine.{Progress, fed, feedAll, finishOf, takes, advanceCall, finishCall, fresh, zeroed, machineText, Calling, telling, callsOn, callsOnParts, callsText, joined, AnyCut}
+use Rattle.records.proofs.running.Advancing.{fed-both, fed-after, calls-go-on}
 
 -- A CALL
 -- what is written is the text
 told-text : (t out : List ℕ) → take (length t) (withText out 0 t) ≡ t
 unfolding withText
 told-text t out = take-append-seam t _
-
--- a text from before stays before
-fed-after : (t : List ℕ) (f : Progress) (xs : List ℕ) → feedAll (fedThen t f) xs ≡ fedThen t (feedAll f xs)
-unfolding feedAll
-fed-after t f [] = refl
-fed-after t f (x ∷ xs) =
-    let g = feedOf (f .machine) x (f .buffers) in
-    rw (append-assoc t (f .text) (g .text)) (fed-after t (fedThen (f .text) g) xs)
 
 -- where a run of calls stands
 abbrev soFar : Calling → Progress

@@ -1,0 +1,2 @@
+-- Bytes fed call by call.
+pub mod Fronts
