@@ -19,7 +19,7 @@ ghost use lib.ListN.{length};
 ghost use mathlib.Core.Path.{_≡_};
 ghost use mathlib.Core.Bool.{true};
 ghost use Rattle.records.specs.Machine.{atEntry, atExit};
-ghost use Rattle.lens_records.specs.Feeding.{FedTo, FedFront};
+ghost use Rattle.lens_records.specs.code.Feeding.{FedTo, FedFront};
 
 // A call of advance, its text written: the machine, how many bytes were taken, and whether the write went well.
 struct Told {

@@ -8,7 +8,7 @@ use Rattle.records.specs.declared.machine.Machine.{Machine}
 use Rattle.records.specs.declared.advance.Advanced.{Advanced}
 use Rattle.records.specs.Machine.{Buffers, Progress, fed, fedThen, feedAll, AdvanceLeft, advanceLeft, advanceCall}
 use Rattle.records.proofs.running.Advancing.{fed-both, fed-after, call-goes-on}
-use Rattle.lens_records.specs.Feeding.{FedTo, FedFront}
+use Rattle.lens_records.specs.code.Feeding.{FedTo, FedFront}
 
 pub fed-none : (m : Machine) (b : Buffers) → FedTo m b [] m b
 unfolding feedAll

@@ -9,7 +9,7 @@ use lib.Seq.{take-all}
 use borrow.Author.Tests.{not-true}
 use borrow.Author.Needs.{needs}
 use Rattle.records.specs.Machine.{buffers}
-use Rattle.lens_records.specs.Feeding.{FedTo}
+use Rattle.lens_records.specs.code.Feeding.{FedTo}
 use Rattle.lens_records.proofs.feeding.Fronts.{fed-none, fed-on}
 use Rattle.lens_records.proofs.part.Statement.{statement}
 use Rattle.lens_records.proofs.part.Tie as tie

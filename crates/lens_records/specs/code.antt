@@ -1,0 +1,2 @@
+-- What only contracts inside the program use.
+pub mod Feeding
