@@ -45,7 +45,8 @@ unfoldable pub refuseIf : Bool → Refusal → Outcome → Outcome
 refuseIf true f next = Refused f
 refuseIf false f next = next
 
--- THE TABLE'S CONDITIONS
+-- THE CHECK OF EACH ROW of the table, in front of what comes next. What the row is given for stands in specs/Table.antt, and the
+-- check is proved to keep to it.
 -- 1: "W and H from 1 to 4,096, W × H at most 2,097,152 .., R from 0 to 64"
 unfoldable pub sizesCheck : Size → Outcome → Outcome
 sizesCheck z next =

@@ -76,6 +76,14 @@ fn feed(
     next.machine
 }
 
+// The machine between two characters, with the first digit of a byte.
+fn between(machine: Machine, half: u8) -> Run {
+    Run {
+        machine: machine,
+        half: half,
+    }
+}
+
 // One character of a case.
 fn step(
     run: Run,
@@ -91,16 +99,10 @@ fn step(
     let machine = run.machine;
     let d = digit(b);
     if d == 16 {
-        return Run {
-            machine: machine,
-            half: 16,
-        };
+        return between(machine, 16);
     }
     if run.half == 16 {
-        return Run {
-            machine: machine,
-            half: d,
-        };
+        return between(machine, d);
     }
     let next = feed(
         machine,
@@ -113,10 +115,7 @@ fn step(
         mattes,
         text,
     );
-    Run {
-        machine: next,
-        half: 16,
-    }
+    between(next, 16)
 }
 
 // The characters of a case, on buffers of its own.

@@ -17,7 +17,7 @@ use Rattle.plate.specs.Fixed.{planesInAll, scratchPlanes}
 use Rattle.plate.specs.code.Filling.{fillLengths}
 use Rattle.plate.proofs.numbers.Extents.{place-within}
 use Rattle.plate.proofs.checks.Rows.{check-passed}
-use Rattle.plate.proofs.checks.Conditions.{inputs-checks, views-checks, count-checks, place-checks, value-checks, shape-checks, radius-checks, radius-in, full-checks, empty-checks, above-checks, lens-checks}
+use Rattle.plate.proofs.checks.Conditions.{inputs-checks, views-checks, count-checks, place-checks, value-checks, shape-checks, radius-checks, radius-under, full-checks, empty-checks, above-checks, lens-checks}
 use Rattle.plate.proofs.checks.Passed.{sizes-passed, lent-passed}
 
 -- the plate's checks, whatever comes after them
@@ -67,7 +67,7 @@ ask-accepted z count room a e =
       place-in = place-within (a .x) (a .y) (z .width) (z .height) (q1 .0 .0) (q1 .0 .1);
       value-in = q2 .0;
       shape-known = q3 .0;
-      radius-in = radius-in (z .reach) shape (a .radius) (q3 .0) (q4 .0);
+      radius-in = radius-under (z .reach) shape (a .radius) (q3 .0) (q4 .0);
       not-full = q5 .0;
     }
 

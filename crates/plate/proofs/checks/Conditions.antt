@@ -176,10 +176,10 @@ radius-checks R (Known s) r =
     (λ h. passing (λ a b. b a) (λ a. omega arith) (λ next. search tests))
 
 -- the top of a shape that is read is not passed
-pub radius-in : (R : ℕ) (s : ShapeRead) (r : ℕ) → s ≡ Known (knownShape s) → ¬ (RadiusAbove R s r) → r ≤ topUnder (knownShape s) R
+pub radius-under : (R : ℕ) (s : ShapeRead) (r : ℕ) → s ≡ Known (knownShape s) → ¬ (RadiusAbove R s r) → r ≤ topUnder (knownShape s) R
 unfolding RadiusAbove
-radius-in R Unknown r e h = unknown-not (knownShape Unknown) e
-radius-in R (Known s) r e h = by-lt (topUnder s R) r (λ l. absurd (h l)) (λ l. l)
+radius-under R Unknown r e h = unknown-not (knownShape Unknown) e
+radius-under R (Known s) r e h = by-lt (topUnder s R) r (λ l. absurd (h l)) (λ l. l)
 
 -- 8
 pub full-checks : (n room : ℕ) → Checks LogFull (n ≡ room) (n ≢ room) (fullCheck n room)

@@ -63,13 +63,13 @@ abbrev outcomeOf : ChangeRead → Outcome
 outcomeOf (ToChange c) = Accepted
 outcomeOf (NoChange f) = Refused f
 
-to-change : (r : ChangeRead) → outcomeOf r ≡ Accepted → (c : Change) × (r ≡ ToChange c)
-to-change (ToChange c) e = (c, refl)
-to-change (NoChange f) e = refused-not f e
+change-read : (r : ChangeRead) → outcomeOf r ≡ Accepted → (c : Change) × (r ≡ ToChange c)
+change-read (ToChange c) e = (c, refl)
+change-read (NoChange f) e = refused-not f e
 
-no-change : (r : ChangeRead) (f : Refusal) → outcomeOf r ≡ Refused f → r ≡ NoChange f
-no-change (ToChange c) f e = refused-not f (sym e)
-no-change (NoChange g) f e = let same : g ≡ f = cc in rw same
+refusal-read : (r : ChangeRead) (f : Refusal) → outcomeOf r ≡ Refused f → r ≡ NoChange f
+refusal-read (ToChange c) f e = refused-not f (sym e)
+refusal-read (NoChange g) f e = let same : g ≡ f = cc in rw same
 
 -- 1 2 3, and what is known where they pass
 plate-first : (s : State) (l : Lent) (rows : List (Row Refusal)) (next : Outcome) → (LawfulSize (s .size) → AnswersBy rows next)
@@ -140,7 +140,7 @@ unfolding putCall putRead putCheck putBy changed
 put-goes s a l =
     let z = s .size in
     let check = plateCheck s (sizedAs l) (askCheck z (s .count) (length (l .log)) a) in
-    goes-by outcomeOf s l (λ r. putBy r s l) (λ r e. rw (to-change r e .1)) (λ r f e. rw (no-change r f e)) (putRows s a l)
+    goes-by outcomeOf s l (λ r. putBy r s l) (λ r e. rw (change-read r e .1)) (λ r f e. rw (refusal-read r f e)) (putRows s a l)
     (putReadBy check z a (l .pixels))
     (rw (put-outcome check z a (l .pixels))
     (answers-then _ _ check _
@@ -153,7 +153,7 @@ unfolding undoCall undoRead undoCheck undoBy changed
 undo-goes s l =
     let z = s .size in
     let check = plateCheck s (sizedAs l) (emptyCheck (s .count) Accepted) in
-    goes-by outcomeOf s l (λ r. undoBy r s l) (λ r e. rw (to-change r e .1)) (λ r f e. rw (no-change r f e)) (undoRows s l)
+    goes-by outcomeOf s l (λ r. undoBy r s l) (λ r e. rw (change-read r e .1)) (λ r f e. rw (refusal-read r f e)) (undoRows s l)
     (undoReadBy check s (l .pixels) (l .log))
     (rw (undo-outcome check s (l .pixels) (l .log))
     (answers-then _ _ check _
