@@ -11,7 +11,7 @@ use Rattle.kernels.specs.declared.shape.ShapeRead.the-variants.{Known, Unknown}
 use Rattle.kernels.specs.Shape.{shapeOf, topUnder}
 use Rattle.kernels.specs.declared.lens.Lens.{Lens as LensOf}
 use Rattle.kernels.specs.Lens.{lawfulLens}
-use Rattle.kernels.specs.Fixed.{valueTop, depthTop}
+use Rattle.kernels.specs.Fixed.{valueTop, depthTop, shapeRefused, lensRefused, depthRefused}
 use Rattle.plate.specs.Fixed.{planesInAll, scratchPlanes, sideTop, placesTop, reachTop, logTop}
 use Rattle.plate.specs.Layout.{Size, padded, places}
 use Rattle.plate.specs.Lent.{State, Sized, Ask, Inputs}
@@ -21,20 +21,21 @@ pub use Rattle.plate.specs.declared.state.Refusal.the-variants.{Sizes, L
 pub use Rattle.plate.specs.declared.state.Outcome.{Outcome}
 pub use Rattle.plate.specs.declared.state.Outcome.the-variants.{Accepted, Refused}
 
--- "An accepted call returns number 0. A refusal returns its number"
+-- "An accepted call returns number 0. A refusal returns its number": those of a shape, a lens and a depth, 6, 11 and 12, are the
+-- kernels'
 abbrev pub refusalNumber : Refusal → ℕ
 refusalNumber Sizes = 1
 refusalNumber Lengths = 2
 refusalNumber LogCount = 3
 refusalNumber Place = 4
 refusalNumber Value = 5
-refusalNumber Shape = 6
+refusalNumber Shape = shapeRefused
 refusalNumber Radius = 7
 refusalNumber LogFull = 8
 refusalNumber LogEmpty = 9
 refusalNumber StoredWord = 10
-refusalNumber Lens = 11
-refusalNumber Depth = 12
+refusalNumber Lens = lensRefused
+refusalNumber Depth = depthRefused
 
 abbrev pub outcomeNumber : Outcome → ℕ
 outcomeNumber Accepted = 0

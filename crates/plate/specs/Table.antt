@@ -15,6 +15,7 @@ use Rattle.kernels.specs.Lens.{openingTop, focalTop, focusTop, pitchTop}
 use Rattle.plate.specs.Fixed.{planesInAll, scratchPlanes, sideTop, placesTop, reachTop, logTop, wordBits}
 use Rattle.plate.specs.Layout.{Size, sizeFrom, padded, places}
 use Rattle.plate.specs.Lent.{State, stateOf, Lent, Sized, sizedAs, Ask, Inputs, Views}
+use Rattle.plate.specs.Word.{shapeIn, radiusIn}
 use Rattle.plate.specs.Refusal.{Refusal, Sizes, Lengths, LogCount, Place, Value, Shape, Radius, LogFull, LogEmpty, StoredWord, Lens, Depth, Outcome, Accepted, Refused, refusalNumber, openCheck}
 use Rattle.plate.specs.Change.{askedPlace}
 use Rattle.plate.specs.Calls.{Left, refused, Shown, shows, answerOf, openCall, putCall, undoCall, fillCall, showCall}
@@ -24,18 +25,28 @@ abbrev pub AnswersBy : List (Row Refusal) → Outcome → Type 0
 AnswersBy rows o = FirstOf (λ f. o ≡ Refused f) (o ≡ Accepted) rows
 
 -- WHEN EACH IS GIVEN
--- a number that is not one from low to top
-abbrev pub Outside : ℕ → ℕ → ℕ → Type 0
-Outside low top n = (n < low) ⊎ (top < n)
+-- "W and H from 1 to 4,096, W × H at most 2,097,152 .., R from 0 to 64"
+pub record LawfulSize (z : Size) : Type 0 where
+  pub width-some : 1 ≤ z .width
+  pub width-top : z .width ≤ sideTop
+  pub height-some : 1 ≤ z .height
+  pub height-top : z .height ≤ sideTop
+  pub places-top : z .width * z .height ≤ placesTop
+  pub reach-top : z .reach ≤ reachTop
 
--- 1: "W, H, W × H or R outside", that is of "W and H from 1 to 4,096, W × H at most 2,097,152 .., R from 0 to 64"
-unfoldable pub SizesOutside : Size → Type 0
-SizesOutside z =
-    Outside 1 sideTop (z .width) ⊎ Outside 1 sideTop (z .height) ⊎ (placesTop < z .width * z .height) ⊎ (reachTop < z .reach)
+-- 1: "W, H, W × H or R outside"
+abbrev pub SizesOutside : Size → Type 0
+SizesOutside z = ¬ (LawfulSize z)
 
--- 2: "a lent length is wrong, a log above 65,535 too": "planes 14 × P, pixels W × H words .., log 0 to 65,535 entries"
-unfoldable pub LentWrong : Size → Sized → Type 0
-LentWrong z n = (n .planes ≢ planesInAll * padded z) ⊎ (n .pixels ≢ places z) ⊎ (logTop < n .log)
+-- "planes 14 × P, pixels W × H words .., log 0 to 65,535 entries"
+pub record LentFor (z : Size) (n : Sized) : Type 0 where
+  pub planes-are : n .planes ≡ planesInAll * padded z
+  pub pixels-are : n .pixels ≡ places z
+  pub log-top : n .log ≤ logTop
+
+-- 2: "a lent length is wrong, a log above 65,535 too"
+abbrev pub LentWrong : Size → Sized → Type 0
+LentWrong z n = ¬ (LentFor z n)
 
 -- "fill's three inputs W × H each"
 unfoldable pub InputsWrong : Size → Inputs → Type 0
@@ -83,12 +94,9 @@ CountFull s l = s .count ≡ length (l .log)
 abbrev pub CountNone : State → Type 0
 CountNone s = s .count ≡ 0
 
--- 10: "stored word or entry breaks 4, 6, 7 or the zero bits", with "shape in 20 to 23, radius in 24 to 31, zeros above"
+-- 10: "stored word or entry breaks 4, 6, 7 or the zero bits"
 unfoldable pub WordBroken : ℕ → ℕ → Type 0
-WordBroken R w =
-    let shape = w / 2 ^ 20 % 16 in
-    let radius = w / 2 ^ 24 % 256 in
-    (2 ^ wordBits ≤ w) ⊎ ShapeAbove shape ⊎ RadiusAbove R (shapeOf shape) radius
+WordBroken R w = (2 ^ wordBits ≤ w) ⊎ ShapeAbove (shapeIn w) ⊎ RadiusAbove R (shapeOf (shapeIn w)) (radiusIn w)
 
 -- the place that an entry keeps above its word, "place being y × W + x"
 abbrev pub placeIn : ℕ → ℕ
@@ -97,6 +105,10 @@ placeIn e = e / 2 ^ wordBits
 unfoldable pub EntryBroken : Size → ℕ → Type 0
 EntryBroken z e =
     PlaceOutside z (placeIn e % z .width) (placeIn e / z .width) ⊎ WordBroken (z .reach) (e % 2 ^ wordBits)
+
+-- a number that is not one from low to top
+abbrev pub Outside : ℕ → ℕ → ℕ → Type 0
+Outside low top n = (n < low) ⊎ (top < n)
 
 -- 11: "D, f, S or p outside", that is of "opening D and focal length f (1 to 4,000), focus S (above f, at most 10,000,000), ..
 -- pitch p 1 to 1,000"
@@ -188,21 +200,6 @@ pub record Demand1 : Type 0 where
   pub show-by : (s : State) (planes : List ℕ) (v : Views) → ShowGoesBy (showRows s planes v) s v (showCall s planes v)
 
 -- PLATES THERE ARE
--- "W and H from 1 to 4,096, W × H at most 2,097,152 .., R from 0 to 64"
-pub record LawfulSize (z : Size) : Type 0 where
-  pub width-some : 1 ≤ z .width
-  pub width-top : z .width ≤ sideTop
-  pub height-some : 1 ≤ z .height
-  pub height-top : z .height ≤ sideTop
-  pub places-top : z .width * z .height ≤ placesTop
-  pub reach-top : z .reach ≤ reachTop
-
--- "planes 14 × P, pixels W × H words .., log 0 to 65,535 entries"
-pub record LentFor (z : Size) (n : Sized) : Type 0 where
-  pub planes-are : n .planes ≡ planesInAll * padded z
-  pub pixels-are : n .pixels ≡ places z
-  pub log-top : n .log ≤ logTop
-
 -- every open with lawful sizes and right lengths is accepted, so that demands 2 and 3 speak of every plate
 abbrev pub OpenAccepts : Type 0
 OpenAccepts = (z : Size) (l : Lent) → LawfulSize z → LentFor z (sizedAs l) → openCheck z (sizedAs l) ≡ Accepted

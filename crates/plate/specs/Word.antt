@@ -30,15 +30,22 @@ pub record Fits (R : ℕ) (p : Pixel) : Type 0 where
 abbrev pub wordOf : Pixel → ℕ
 wordOf p = p .value + 2 ^ 12 * p .opacity + 2 ^ 20 * numberOf (p .shape) + 2 ^ 24 * p .radius
 
+-- and taken apart: the shape's number and the radius
+abbrev pub shapeIn : ℕ → ℕ
+shapeIn w = w / 2 ^ 20 % 16
+
+abbrev pub radiusIn : ℕ → ℕ
+radiusIn w = w / 2 ^ 24 % 256
+
 -- a word under R: broken where it "breaks .. 6, 7 or the zero bits" of the table of refusals
 abbrev pub pixelIn : ℕ → ℕ → ShapeRead → Unpacked
 pixelIn R w Unknown = Broken
 pixelIn R w (Known s) =
-    pick (ltb (topUnder s R) (w / 2 ^ 24 % 256)) Broken
-    (Whole (record { value = w % 2 ^ 12; opacity = w / 2 ^ 12 % 256; shape = s; radius = w / 2 ^ 24 % 256 }))
+    pick (ltb (topUnder s R) (radiusIn w)) Broken
+    (Whole (record { value = w % 2 ^ 12; opacity = w / 2 ^ 12 % 256; shape = s; radius = radiusIn w }))
 
 unfoldable pub readWord : ℕ → ℕ → Unpacked
-readWord R w = pick (leb (2 ^ wordBits) w) Broken (pixelIn R w (shapeOf (w / 2 ^ 20 % 16)))
+readWord R w = pick (leb (2 ^ wordBits) w) Broken (pixelIn R w (shapeOf (shapeIn w)))
 
 -- "entries of 64 bits (word + 2^32 × place, ..)"
 abbrev pub loggedAs : ℕ → ℕ → ℕ

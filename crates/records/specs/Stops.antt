@@ -3,15 +3,15 @@ use mathlib.Core.Path.{_≡_}
 use mathlib.Core.Logic.{_≢_, _⊎_}
 use mathlib.Core.List.{List, [], _∷_, _++_}
 use Prim.Native.Nat.{ℕ, suc, _+_, _<_}
-use lib.ListN.{getD, length, drop}
+use lib.ListN.{getD, length, take, drop}
 use Rattle.kernels.specs.Rows.{Row, row, FirstOf}
 use Rattle.plate.specs.declared.size.Size.{Size}
 use Rattle.plate.specs.Layout.{sizeFrom, padded}
 use Rattle.plate.specs.Table.{Outside, SizesOutside}
 use Rattle.plate.specs.Notebook.{Book}
 use Rattle.records.specs.Fixed.{cellsTop, openBody, putBody}
-use Rattle.records.specs.Record.{Stop, Sizes, Kind, Body, Order, Cells, pair, itemsBy}
-use Rattle.records.specs.Run.{Desk, closed, opened, stopText, textFrom}
+use Rattle.records.specs.Record.{Stop, Sizes, Kind, Body, Order, Cells, Bytes, bodyLength, pair, recordOf, itemsBy}
+use Rattle.records.specs.Run.{Desk, closed, opened, go, act, stopText, textFrom}
 
 -- 13: "unknown kind": "1 open .., 2 put .., 3 undo, 4 show"
 abbrev pub KindUnknown : ℕ → Type 0
@@ -40,12 +40,14 @@ recordRows d kind rest =
     ∷ row Cells ((kind ≡ 1) × (cellsTop < padded (openSize rest)))
     ∷ []
 
--- a run that has done k records goes on after this one: its text, and the text of what follows its body with the notebook that it
--- leaves
+-- a run that has done k records goes on after this one: the record of its kind's body is done, and then come its text and the text
+-- of what follows that body, with the notebook that it leaves
 pub record GoesOnAfter (k n : ℕ) (d : Desk) (kind : ℕ) (rest : List ℕ) : Type 0 where
+  pub body : ℕ
   pub text : List ℕ
   pub book : Book
-  pub body : ℕ
+  pub body-is : bodyLength kind ≡ Bytes body
+  pub done : act (k + 1) d (recordOf kind (take body rest)) ≡ go text book
   pub goes-on : textFrom k d (itemsBy (suc n) (kind ∷ rest)) ≡ text ++ textFrom (k + 1) (opened book) (itemsBy n (drop body rest))
 
 -- STOPS: a record stops the run by the first of its rows that applies, and the run goes on where none does

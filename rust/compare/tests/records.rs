@@ -1,8 +1,7 @@
 //! The record program on byte strings, against the reference's text.
 //!
-//! The program is target/bin/lens_records of the repository, or what `LENS_RECORDS` names.
-//! Where neither is there, the comparison is left out with a note; set the variable where
-//! it must not be.
+//! The program is target/bin/lens_records of the repository, or what `LENS_RECORDS` names;
+//! where it is not there, the comparison fails.
 
 use std::env;
 use std::fs;
@@ -21,12 +20,15 @@ const STRINGS: usize = 1_500;
 /// times.
 const STREAM: usize = 6_500_000;
 
-fn program() -> Option<PathBuf> {
-    if let Some(program) = env::var_os("LENS_RECORDS") {
-        return Some(PathBuf::from(program));
-    }
-    let program = repository().join("target/bin/lens_records");
-    program.is_file().then_some(program)
+fn program() -> PathBuf {
+    let built = repository().join("target/bin/lens_records");
+    let program = env::var_os("LENS_RECORDS").map_or(built, PathBuf::from);
+    assert!(
+        program.is_file(),
+        "no {}: build it by `rt check lens_records`, or name another in LENS_RECORDS",
+        program.display(),
+    );
+    program
 }
 
 /// Runs the program on an input that is written in parts of these sizes: its text, and
@@ -169,10 +171,7 @@ fn put(width: usize, height: usize, reach: usize, random: &mut Random) -> Vec<u8
 
 #[test]
 fn texts_agree() {
-    let Some(program) = program() else {
-        say("records: no target/bin/lens_records, so the record program was NOT compared");
-        return;
-    };
+    let program = program();
     let random = &mut Random::new(51);
     let mut strings = examples();
     strings.extend((0..STRINGS).map(|_| random_string(random)));
@@ -208,10 +207,7 @@ fn assert_same(told: &str, expected: &str, which: &str) {
 /// Streams that take the program many reads, and texts that fill its buffer many times.
 #[test]
 fn streams_agree() {
-    let Some(program) = program() else {
-        say("records: no target/bin/lens_records, so no stream was compared");
-        return;
-    };
+    let program = program();
     let random = &mut Random::new(52);
     let whole = [
         ("a stream with many shows", stream(8, random)),

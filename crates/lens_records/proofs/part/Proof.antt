@@ -1,14 +1,14 @@
 -- Each call takes a byte or more of what is left, and no more than is left; after it a longer front of the part is fed, and at the
 -- end all of it.
 use mathlib.Core.Path.{_≡_, sym, _∙_}
-use mathlib.Core.Bool.{true, false}
-use Prim.Native.Nat.{ℕ, _-_, _≤_}
+use Prim.Native.Nat.{_-_, _≤_}
 use native.Mathlib.Omega.{arith}
 use lib.ListN.{length, take, drop, length-drop}
 use lib.Seq.{take-all}
 use borrow.Author.Tests.{not-true}
 use borrow.Author.Needs.{needs}
 use Rattle.records.specs.Machine.{buffers}
+use Rattle.plate.proofs.checks.Conditions.{true-not}
 use Rattle.lens_records.specs.code.Feeding.{FedTo}
 use Rattle.lens_records.proofs.feeding.Fronts.{fed-none, fed-on}
 use Rattle.lens_records.proofs.part.Statement.{statement}
@@ -27,9 +27,6 @@ abbrev μ-loop : tie.MeasureT-loop
 -- where the test lets a call be made
 abbrev inside : tie.After-struct-known2 Inv-loop μ-loop → tie.In-loop Inv-loop μ-loop
 inside c = c .before .before .before .before .before .before .before .before .before .before .before .before .before
-
-true-not : {P : Type 0} → true ≡ false → P
-true-not e = let z : _≡_ {A = ℕ} 0 1 = cc in absurd (omega arith)
 
 loop-holds : tie.Need-loop-holds Inv-loop μ-loop
 loop-holds c = (search needs, fed-none _ _)

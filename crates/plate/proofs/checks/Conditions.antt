@@ -34,26 +34,17 @@ pub true-not : {P : Type 0} → true ≡ false → P
 true-not e = let z : _≡_ {A = ℕ} 0 1 = cc in absurd (omega arith)
 
 -- 1
-sizes-apart : (z : Size) → SizesOutside z → LawfulSize z → ⊥
-unfolding SizesOutside
-sizes-apart z (inl (inl h)) l = omega arith
-sizes-apart z (inl (inr h)) l = omega arith
-sizes-apart z (inr (inl (inl h))) l = omega arith
-sizes-apart z (inr (inl (inr h))) l = omega arith
-sizes-apart z (inr (inr (inl h))) l = omega (arith, l .places-top)
-sizes-apart z (inr (inr (inr h))) l = omega arith
-
 pub sizes-checks : (z : Size) → Checks Sizes (SizesOutside z) (LawfulSize z) (sizesCheck z)
-unfolding SizesOutside sizesCheck refuseIf
+unfolding sizesCheck refuseIf
 sizes-checks z =
-    let apart = sizes-apart z in
-    by-lt (z .width) 1 (λ h. refusing apart (inl (inl h)) (λ next. search tests)) (λ w.
-    by-lt sideTop (z .width) (λ h. refusing apart (inl (inr h)) (λ next. search tests)) (λ W.
-    by-lt (z .height) 1 (λ h. refusing apart (inr (inl (inl h))) (λ next. search tests)) (λ h.
-    by-lt sideTop (z .height) (λ g. refusing apart (inr (inl (inr g))) (λ next. search tests)) (λ H.
-    by-lt placesTop (z .width * z .height) (λ g. refusing apart (inr (inr (inl g))) (λ next. search tests)) (λ p.
-    by-lt reachTop (z .reach) (λ g. refusing apart (inr (inr (inr g))) (λ next. search tests)) (λ r.
-    passing apart
+    by-lt (z .width) 1 (λ h. refusing (λ a b. a b) (λ l. omega arith) (λ next. search tests)) (λ w.
+    by-lt sideTop (z .width) (λ h. refusing (λ a b. a b) (λ l. omega arith) (λ next. search tests)) (λ W.
+    by-lt (z .height) 1 (λ h. refusing (λ a b. a b) (λ l. omega arith) (λ next. search tests)) (λ h.
+    by-lt sideTop (z .height) (λ g. refusing (λ a b. a b) (λ l. omega arith) (λ next. search tests)) (λ H.
+    by-lt placesTop (z .width * z .height)
+    (λ g. refusing (λ a b. a b) (λ l. omega (arith, l .places-top)) (λ next. search tests)) (λ p.
+    by-lt reachTop (z .reach) (λ g. refusing (λ a b. a b) (λ l. omega arith) (λ next. search tests)) (λ r.
+    passing (λ a b. a b)
     (record { width-some = w; width-top = W; height-some = h; height-top = H; places-top = p; reach-top = r })
     (λ next. search tests)))))))
 
@@ -65,23 +56,16 @@ length-checks n want =
     (λ e. passing (λ a b. a b) e (λ next. search tests))
     (λ e. refusing (λ a b. a b) e (λ next. search tests))
 
-lent-apart : (z : Size) (n : Sized) → LentWrong z n → LentFor z n → ⊥
-unfolding LentWrong
-lent-apart z n (inl h) l = h (l .planes-are)
-lent-apart z n (inr (inl h)) l = h (l .pixels-are)
-lent-apart z n (inr (inr h)) l = omega (arith, l .log-top)
-
 pub lent-checks : (z : Size) (n : Sized) → Checks Lengths (LentWrong z n) (LentFor z n) (lentCheck z n)
-unfolding LentWrong lentCheck refuseIf
+unfolding lentCheck refuseIf
 lent-checks z n =
-    let apart = lent-apart z n in
     by-eq (n .planes) (planesInAll * padded z)
     (λ p. by-eq (n .pixels) (places z)
     (λ w. by-lt logTop (n .log)
-    (λ h. refusing apart (inr (inr h)) (λ next. search tests))
-    (λ h. passing apart (record { planes-are = p; pixels-are = w; log-top = h }) (λ next. search tests)))
-    (λ h. refusing apart (inr (inl h)) (λ next. search tests)))
-    (λ h. refusing apart (inl h) (λ next. search tests))
+    (λ h. refusing (λ a b. a b) (λ l. omega (arith, l .log-top)) (λ next. search tests))
+    (λ h. passing (λ a b. a b) (record { planes-are = p; pixels-are = w; log-top = h }) (λ next. search tests)))
+    (λ h. refusing (λ a b. a b) (λ l. h (l .pixels-are)) (λ next. search tests)))
+    (λ h. refusing (λ a b. a b) (λ l. h (l .planes-are)) (λ next. search tests))
 
 -- what fill is lent besides: "W × H each"
 pub inputs-checks : (z : Size) (v o d : ℕ)
@@ -138,7 +122,7 @@ value-checks v =
     (λ h. passing (λ a b. omega arith) h (λ next. search tests))
 
 -- 6
-unknown-not : {P : Type 0} (s : ShapeOf) → Unknown ≡ Known s → P
+pub unknown-not : {P : Type 0} (s : ShapeOf) → Unknown ≡ Known s → P
 unknown-not s e = let z : _≡_ {A = ℕ} 0 1 = cc in absurd (omega arith)
 
 -- a number names a shape, or none where it is above 5

@@ -48,7 +48,14 @@ module _ (k n : ℕ) (d : Desk) (kind : ℕ) (rest : List ℕ) where
       act-goes : (text : List ℕ) (book : Book) → act (k + 1) d r ≡ go text book → GoesOnAfter k n d kind rest
       unfolding textFrom itemsBy
       act-goes text book a =
-          record { text = text; book = book; body = m; goes-on = rw (e, le-ltb (length rest) m whole, read, a) }
+          record {
+            body = m;
+            text = text;
+            book = book;
+            body-is = e;
+            done = rw read a;
+            goes-on = rw (e, le-ltb (length rest) m whole, read, a);
+          }
 
 -- THE ROWS THAT DO NOT APPLY
 -- a kind from 1 to 4

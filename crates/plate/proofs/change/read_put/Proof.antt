@@ -1,17 +1,15 @@
 -- The check's refusal comes first; past it the word at the place and the shape are read as the definition reads them.
 use mathlib.Core.Path.{_≡_, sym, _∙_}
-use Prim.Native.Nat.{ℕ}
 use native.Mathlib.Omega.{arith}
 use denote.Ref.{now}
 use lib.ListN.{length, getD}
 use borrow.Author.Needs.{needs}
-use Rattle.kernels.specs.declared.shape.Shape.{Shape}
-use Rattle.kernels.specs.declared.shape.ShapeRead.the-variants.{Known, Unknown}
 use Rattle.kernels.proofs.taps.ShapeNumbers.{shape-read}
 use Rattle.plate.specs.Lent.{Sized, sized}
 use Rattle.plate.specs.Word.{Whole, readWord}
 use Rattle.plate.specs.Refusal.{Accepted, putCheck}
 use Rattle.plate.specs.Change.{askedPlace, putOver, putReadBy, putRead}
+use Rattle.plate.proofs.checks.Conditions.{unknown-not}
 use Rattle.plate.proofs.checks.Accepted.{PlateAccepted, plate-accepted, AskAccepted, ask-accepted}
 use Rattle.plate.proofs.change.read_put.Statement.{statement}
 use Rattle.plate.proofs.change.read_put.Tie as tie
@@ -49,9 +47,6 @@ read c = sym (c .before .before .unpack .ensures) ∙ c .old .given .1
 -- where the shape is read
 abbrev stored : tie.After-shape-of → tie.After-old
 stored c = c .before .before
-
-unknown-not : {P : Type 0} (s : Shape) → Unknown ≡ Known s → P
-unknown-not s e = let z : _≡_ {A = ℕ} 0 1 = cc in absurd (omega arith)
 
 check-put-requires : tie.Need-check-put-requires
 check-put-requires c κs = search needs
