@@ -21,7 +21,11 @@
  *     shape       0 box    1 tent    2 triple    3 diamond    4 hexagon    5 octagon
  *     top radius  64       8         3           64           64           64
  *     reaches     r        2 r       3 r         r            r            r
- *     marks       4        9         16          8            12           12
+ *     marks       8        13        20          12           16           16
+ *
+ * Every kernel adds up to the whole exactly: what rounding the share of a tap down loses
+ * goes to its centre. So a flat layer stays flat to the code value, but for a border as
+ * wide as its kernel reaches.
  *
  * Answers: number 0 is accepted. Otherwise the lowest number that applies:
  *
@@ -49,7 +53,8 @@ typedef struct { size_t width, height, reach, count; } lens_state;
  * 0.1 mm; the pitch of a pixel, 1 to 1,000, in 0.1 um. */
 typedef struct { uint32_t opening, focal, focus, pitch; } lens_lens;
 
-/* marks: how many marks a put or an undo moved, 0 for other calls and for refused ones.
+/* marks: how many marks a put or an undo moved, 16 to 40, those of both kernels; 0 for
+ * other calls and for refused ones.
  * state: the state for the next call; unchanged by a refused one, all zero from a refused
  * open. */
 typedef struct { uint32_t number, marks; lens_state state; } lens_answer;

@@ -3,11 +3,11 @@ use mathlib.Core.Path.{_≡_}
 use mathlib.Core.List.{List, [], _∷_}
 use Prim.Native.Nat.{ℕ, zero, suc, _+_, _*_, _-_, _^_, _%_, _≤_, _<_}
 use lib.Dec.{ltb}
-use Rattle.kernels.specs.Fixed.{planesEach, margin}
+use Rattle.kernels.specs.Fixed.{unit, planesEach, margin}
 use Rattle.kernels.specs.Choice.{pick, within, same, strip}
 use Rattle.kernels.specs.Sum.{dist, Plane, down, slope, summed, finish}
 use Rattle.kernels.specs.Shape.{Shape, reachOf}
-use Rattle.kernels.specs.Tap.{boxTap, weight}
+use Rattle.kernels.specs.Tap.{boxTap, octagonTap, Taps, squareSum, weighted, weight}
 use Rattle.kernels.specs.Mark.{Mark, Run, runRow, slopePlane, runMarks, boxMarks, scaled, marks, planesOf}
 
 -- BOXES
@@ -76,6 +76,18 @@ abbrev pub KernelFact : Type 0
 KernelFact =
     (s : Shape) (r w X Y x y : ℕ) → reachOf s r ≤ X → reachOf s r + 1 ≤ Y
     → finish (planesOf (scaled w (marks s r X Y))) x y % 2 ^ 64 ≡ w * weight s r (dist x X) (dist y Y) % 2 ^ 64
+
+-- "each kernel's shares sum to 8,388,608 exactly": the weights over the square that a kernel reaches, for any taps at all
+abbrev pub WholeFact : Type 0
+WholeFact = (f : Taps) (m : ℕ) → squareSum (weighted f (squareSum f m)) m ≡ unit
+
+-- so for every shape and radius
+abbrev pub ShapesWhole : Type 0
+ShapesWhole = (s : Shape) (r : ℕ) → squareSum (weight s r) (reachOf s r) ≡ unit
+
+-- and for an octagon of any t
+abbrev pub OctagonWhole : Type 0
+OctagonWhole = (r t : ℕ) → squareSum (weighted (octagonTap r t) (squareSum (octagonTap r t) r)) r ≡ unit
 
 -- what holds of each mark of a list
 unfoldable pub Each : (Mark → Type 0) → List Mark → Type 0

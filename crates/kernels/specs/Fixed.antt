@@ -1,9 +1,13 @@
 -- The paper's numbers that stand in more than one place, each named once. The code's names for them are in src/fixed.rt.
 use Prim.Native.Nat.{ℕ, _*_}
 
--- "The share s is 8,388,608 / A rounded down": what a kernel's shares are parts of. In code the table has the shares themselves.
+-- "each kernel's shares sum to 8,388,608 exactly": what a kernel's shares and its remainder are parts of
 abbrev pub unit : ℕ
 unit = 8388608
+
+-- "four more marks in slope 0": those of a kernel's centre
+abbrev pub centreCount : ℕ
+centreCount = 4
 
 -- "matte / 8,388,608": what a shown matte is counted in
 abbrev pub matteUnit : ℕ

@@ -5,7 +5,7 @@ use Rattle.kernels.specs.Fixed.{level, secondBox, thirdBox}
 use Rattle.kernels.specs.Choice.{same}
 use Rattle.kernels.specs.Sum.{Planes}
 use Rattle.kernels.specs.Shape.{Shape, Box, Tent, Triple, Diamond, Hexagon, Octagon}
-use Rattle.kernels.specs.Tap.{half, share}
+use Rattle.kernels.specs.Tap.{half, share, rest}
 
 -- a mark: in one of a picture's planes, at a column and a row, with a signed coefficient
 pub record Mark : Type 0 where
@@ -122,9 +122,13 @@ unfoldable pub scaled : ℕ → List Mark → List Mark
 scaled c [] = []
 scaled c (m ∷ ms) = mark (m .plane) (m .column) (m .row) (c * m .coefficient) ∷ scaled c ms
 
--- the marks of a kernel, for opacity 1: "A mark is worth its sign or factor times a × s"
+-- the marks of a kernel, for opacity 1: "A mark is worth its sign or factor times a × s", and the remainder is "laid as four more
+-- marks in slope 0", a box of radius 0 at the centre
+unfoldable pub centreMarks : ℕ → ℕ → List Mark
+centreMarks X Y = boxMarks level 1 0 X Y
+
 unfoldable pub marks : Shape → ℕ → ℕ → ℕ → List Mark
-marks s r X Y = scaled (share s r) (tapMarks s r X Y)
+marks s r X Y = scaled (share s r) (tapMarks s r X Y) ++ scaled (rest s r) (centreMarks X Y)
 
 -- the planes that hold a list of marks: at each cell, all that is laid there
 unfoldable pub planesOf : List Mark → Planes

@@ -1,9 +1,9 @@
 -- The six shapes, and their rows in the paper's table of kernels.
-use Prim.Native.Nat.{ℕ, _*_, _/_, min}
+use Prim.Native.Nat.{ℕ, _+_, _*_, _/_, min}
 use mathlib.Core.List.{List, [], _∷_}
 use lib.ListN.{getD}
 use lib.Dec.{ltb}
-use Rattle.kernels.specs.Fixed.{shapeCount, accepted, shapeRefused}
+use Rattle.kernels.specs.Fixed.{shapeCount, centreCount, accepted, shapeRefused}
 use Rattle.kernels.specs.Choice.{pick}
 use Rattle.kernels.specs.Told.{Told, told}
 pub use Rattle.kernels.specs.declared.shape.Shape.{Shape}
@@ -54,14 +54,18 @@ topOf Diamond = 64
 topOf Hexagon = 64
 topOf Octagon = 64
 
--- "marks"
+-- "marks": those of the taps
+abbrev pub tapCount : Shape → ℕ
+tapCount Box = 4
+tapCount Tent = 9
+tapCount Triple = 16
+tapCount Diamond = 8
+tapCount Hexagon = 12
+tapCount Octagon = 12
+
+-- "four more marks in slope 0, so a kernel has 8 to 20 marks"
 abbrev pub countOf : Shape → ℕ
-countOf Box = 4
-countOf Tent = 9
-countOf Triple = 16
-countOf Diamond = 8
-countOf Hexagon = 12
-countOf Octagon = 12
+countOf s = tapCount s + centreCount
 
 -- "the kernel reaches n × r"
 abbrev pub reachOf : Shape → ℕ → ℕ

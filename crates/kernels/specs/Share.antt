@@ -1,12 +1,39 @@
--- The table of shares, and the share of a kernel as the code hands it out.
+-- The table of shares and remainders, and those of a kernel as the code hands them out.
 use mathlib.Core.List.{List, [], _∷_}
-use Prim.Native.Nat.{ℕ, zero, suc, _+_, _*_}
+use Prim.Native.Nat.{ℕ, zero, suc, _+_, _*_, _/_, _%_, _^_}
 use lib.ListN.{getD}
 use Rattle.kernels.specs.Fixed.{radii, tableRows}
 use Rattle.kernels.specs.Choice.{within}
-use Rattle.kernels.specs.Shape.{Shape, numberOf}
-use Rattle.kernels.specs.Tap.{shareUpTo, shareAt}
+use Rattle.kernels.specs.Shape.{Shape, ShapeRead, Known, Unknown, numberOf, shapeOf}
+use Rattle.kernels.specs.Tap.{shareUpTo, restUpTo}
 pub use Rattle.kernels.specs.declared.share.Share.{Share}
+
+-- what a pixel of opacity 1 adds for each tap, and at the centre besides
+abbrev pub shareFrom : ℕ → ℕ → Share
+shareFrom each rest = record { each = each; rest = rest }
+
+abbrev pub shareParts : Shape → ℕ → Share
+shareParts s r = shareFrom (shareUpTo s r) (restUpTo s r)
+
+-- a row of the table in one number: the share, and the remainder above its bits
+abbrev pub rowBits : ℕ
+rowBits = 32
+
+abbrev pub tableRow : Share → ℕ
+tableRow q = q .each + 2 ^ rowBits * q .rest
+
+-- and taken apart
+abbrev pub shareIn : ℕ → Share
+shareIn row = shareFrom (row % 2 ^ rowBits) (row / 2 ^ rowBits % 2 ^ rowBits)
+
+-- "The shares for all six shapes and every radius stand in one table", "the remainder as a second column": shape by shape, each
+-- radius by radius
+abbrev pub partsOf : ShapeRead → ℕ → Share
+partsOf (Known s) r = shareParts s r
+partsOf Unknown r = shareFrom 0 0
+
+unfoldable pub rowAt : ℕ → ℕ
+rowAt k = tableRow (partsOf (shapeOf (k / radii)) (k % radii))
 
 -- n numbers: f k, f (k + 1), ..
 unfoldable pub listFrom : (ℕ → ℕ) → ℕ → ℕ → List ℕ
@@ -15,12 +42,8 @@ listFrom f k (suc n) = f k ∷ listFrom f (suc k) n
 
 -- "one table of 390 entries, 0 above the top"
 unfoldable pub shareTable : List ℕ
-shareTable = listFrom shareAt 0 tableRows
+shareTable = listFrom rowAt 0 tableRows
 
 -- what a table holds for a shape and a radius; it has no place for a radius past its radii
 unfoldable pub tableShare : List ℕ → Shape → ℕ → Share
-tableShare table s r = record { each = within (suc r) radii (getD table (radii * numberOf s + r) 0) }
-
--- what a pixel of opacity 1 adds, for each tap
-unfoldable pub shareParts : Shape → ℕ → Share
-shareParts s r = record { each = shareUpTo s r }
+tableShare table s r = shareIn (within (suc r) radii (getD table (radii * numberOf s + r) 0))

@@ -1,9 +1,9 @@
--- Taps, areas, shares and weights of the kernels.
-use Prim.Native.Nat.{ℕ, zero, suc, _+_, _*_, _-_, _/_, _%_, min}
-use Rattle.kernels.specs.Fixed.{unit, radii}
+-- Taps, areas, shares, remainders and weights of the kernels.
+use Prim.Native.Nat.{ℕ, zero, suc, _+_, _*_, _-_, _/_, min}
+use Rattle.kernels.specs.Fixed.{unit}
 use Rattle.kernels.specs.Choice.{within, same}
 use Rattle.kernels.specs.Sum.{Row, sum, dist}
-use Rattle.kernels.specs.Shape.{Shape, Box, Tent, Triple, Diamond, Hexagon, Octagon, ShapeRead, Known, Unknown, shapeOf, topOf, reachOf}
+use Rattle.kernels.specs.Shape.{Shape, Box, Tent, Triple, Diamond, Hexagon, Octagon, topOf, reachOf}
 
 -- BOXES ON ONE AXIS
 -- a row moved s cells on, 0 before its start
@@ -51,29 +51,46 @@ tap Hexagon r dx dy = within dx r (within dy (min (2 * half r) (2 * (r - dx))) 1
 tap Octagon r dx dy = octagonTap r (half r) dx dy
 
 -- SHARES
--- "A is the sum of all taps": over the square of cells that the kernel reaches, its middle at (m, m)
-unfoldable pub area : Shape → ℕ → ℕ
-area s r =
-    let m = reachOf s r in
-    sum (λ x. sum (λ y. tap s r (dist x m) (dist y m)) (2 * m + 1)) (2 * m + 1)
+-- taps, or weights, by abs (dx) and abs (dy)
+abbrev pub Taps : Type 0
+Taps = ℕ → ℕ → ℕ
 
--- "The share s is 8,388,608 / A rounded down."
-unfoldable pub share : Shape → ℕ → ℕ
-share s r = unit / area s r
+-- their sum over the square of cells that reaches m from its middle, (m, m)
+abbrev pub squareSum : Taps → ℕ → ℕ
+squareSum f m = sum (λ x. sum (λ y. f (dist x m) (dist y m)) (2 * m + 1)) (2 * m + 1)
+
+-- "A is the sum of all taps": over the square of cells that the kernel reaches
+unfoldable pub area : Shape → ℕ → ℕ
+area s r = squareSum (tap s r) (reachOf s r)
+
+-- "The share s is 8,388,608 / A rounded down.": for any area A
+unfoldable pub shareFor : ℕ → ℕ
+shareFor A = unit / A
+
+-- "The part lost by rounding the share down"
+unfoldable pub restFor : ℕ → ℕ
+restFor A = unit - shareFor A * A
+
+-- those of a shape and a radius
+abbrev pub share : Shape → ℕ → ℕ
+share s r = shareFor (area s r)
+
+abbrev pub rest : Shape → ℕ → ℕ
+rest s r = restFor (area s r)
 
 -- "0 above the top"
 unfoldable pub shareUpTo : Shape → ℕ → ℕ
 shareUpTo s r = within r (topOf s) (share s r)
 
--- "The shares for all six shapes and every radius stand in one table": shape by shape, each radius by radius
-abbrev pub shareOf : ShapeRead → ℕ → ℕ
-shareOf (Known s) r = shareUpTo s r
-shareOf Unknown r = 0
-
-unfoldable pub shareAt : ℕ → ℕ
-shareAt k = shareOf (shapeOf (k / radii)) (k % radii)
+unfoldable pub restUpTo : Shape → ℕ → ℕ
+restUpTo s r = within r (topOf s) (rest s r)
 
 -- WEIGHTS
--- what a pixel of opacity 1 adds to the matte sum of a cell: "a × s × tap"
-unfoldable pub weight : Shape → ℕ → ℕ → ℕ → ℕ
-weight s r dx dy = share s r * tap s r dx dy
+-- what a pixel of opacity 1 adds to the matte sum of a cell, by a kernel with taps f of area A: "a × s × tap", and "The part lost
+-- by rounding the share down now goes to the centre tap"
+abbrev pub weighted : Taps → ℕ → Taps
+weighted f A dx dy = shareFor A * f dx dy + same dx 0 (same dy 0 (restFor A))
+
+-- by the kernel of a shape and a radius
+unfoldable pub weight : Shape → ℕ → Taps
+weight s r dx dy = weighted (tap s r) (area s r) dx dy

@@ -1,5 +1,8 @@
 // The paper's numbers that stand in more than one place, each named once, as in specs/Fixed.antt.
 
+// What a kernel's shares and its remainder are parts of.
+pub const UNIT: u32 = 8388608;
+
 // What a shown matte is counted in.
 pub const MATTE_UNIT: u64 = 8388608;
 
@@ -9,6 +12,9 @@ pub const RADII: usize = 65;
 pub const SHAPES: usize = 6;
 
 pub const TABLE_ROWS: usize = SHAPES * RADII;
+
+// The marks of a kernel's centre.
+pub const CENTRE_MARKS: u32 = 4;
 
 // The planes of a picture: slopes −2, −1, 0, 1, 2, second box, third box; and the places of three of them in that order.
 pub const PLANES_EACH: usize = 7;

@@ -1,6 +1,7 @@
 // The six shapes of a lens opening.
+use crate::fixed::CENTRE_MARKS;
 ghost use mathlib.Core.Path.{_≡_};
-ghost use Rattle.kernels.specs.Shape.{numberOf, shapeTold, shapeFor, boxesOf, topOf, countOf, reachOf, topUnder};
+ghost use Rattle.kernels.specs.Shape.{numberOf, shapeTold, shapeFor, boxesOf, topOf, tapCount, countOf, reachOf, topUnder};
 
 pub enum Shape {
     Box,
@@ -73,9 +74,9 @@ pub fn top(s: Shape) -> usize
     }
 }
 
-// How many marks a kernel has.
-pub fn mark_count(s: Shape) -> u32
-    ensures { λ r. ⌜ r ≡ countOf s ⌝ }
+// How many marks a kernel's taps have.
+fn tap_marks(s: Shape) -> u32
+    ensures { λ r. ⌜ r ≡ tapCount s ⌝ }
 {
     match s {
         Shape::Box => 4,
@@ -85,6 +86,13 @@ pub fn mark_count(s: Shape) -> u32
         Shape::Hexagon => 12,
         Shape::Octagon => 12,
     }
+}
+
+// How many marks a kernel has: those of its taps, and those of its centre.
+pub fn mark_count(s: Shape) -> u32
+    ensures { λ r. ⌜ r ≡ countOf s ⌝ }
+{
+    tap_marks(s) + CENTRE_MARKS
 }
 
 // How far a kernel reaches from its pixel: each box by its radius.

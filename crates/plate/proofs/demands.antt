@@ -5,5 +5,6 @@ pub mod Logs
 pub mod Mirror
 pub mod Fills
 pub mod Demand
+pub mod FlatLayers
 pub mod Reports
 pub mod Worked

@@ -11,4 +11,5 @@ pub mod Table
 pub mod Plain
 pub mod Notebook
 pub mod Lists
+pub mod Flat
 pub mod code

@@ -13,21 +13,20 @@ use Rattle.plate.specs.Calls.{listTo}
 abbrev pub pixelAt : List Pixel → ℕ → Pixel
 pixelAt grid i = getD grid i empty
 
--- "A pixel adds a × s × tap to the matte sum and v times that to the light sum."
+-- "A pixel adds a × s × tap to the matte sum and v times that to the light sum.": what its weights are taken times
 abbrev pub matteOf : Pixel → ℕ
 matteOf p = p .opacity
 
 abbrev pub lightOf : Pixel → ℕ
 lightOf p = p .value * p .opacity
 
+-- what the pixel p at place j adds to the matte sum of cell i, for opacity 1
+abbrev pub weightAt : Size → Pixel → ℕ → ℕ → ℕ
+weightAt z p j i = weightOf p (dist (i % z .width) (j % z .width)) (dist (i / z .width) (j / z .width))
+
 -- "at each image cell, the matte and light sums of all that its pixels add there by their kernels"
 unfoldable pub plainSum : Size → List Pixel → (Pixel → ℕ) → ℕ → ℕ
-plainSum z grid worth i =
-    sum
-    (λ j.
-    let p = pixelAt grid j in
-    worth p * weightOf p (dist (i % z .width) (j % z .width)) (dist (i / z .width) (j / z .width)))
-    (places z)
+plainSum z grid worth i = sum (λ j. let p = pixelAt grid j in worth p * weightAt z p j i) (places z)
 
 -- "rounded as above"
 unfoldable pub plainValues : Size → List Pixel → List ℕ

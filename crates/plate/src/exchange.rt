@@ -27,13 +27,12 @@ fn exchange_marks(planes: &mut [u64], size: Size, change: Change)
     ensures { λ _. ⌜ now (planes .exit) ≡ exchanged size (change .place) (change .old) (change .new) (now (planes .entry)) ⌝ }
 {
     let frame = frame_of(size);
-    let table = kernels::share::shares();
     let old = change.old;
     let new = change.new;
     let old_shape = old.shape;
     let new_shape = new.shape;
-    let old_share = kernels::share::share_in(&table, old_shape, old.radius);
-    let new_share = kernels::share::share_in(&table, new_shape, new.radius);
+    let old_share = kernels::share::share_of(old_shape, old.radius);
+    let new_share = kernels::share::share_of(new_shape, new.radius);
     take_pixel(planes, frame, change.x, change.y, old, old_share);
     lay_pixel(planes, frame, change.x, change.y, new, new_share);
 }

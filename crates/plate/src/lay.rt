@@ -16,6 +16,7 @@ ghost use Prim.Native.Nat.{ℕ, _*_, _<_, _≤_};
 ghost use lib.ListN.{length};
 ghost use Rattle.kernels.specs.Fixed.{planesEach, margin};
 ghost use Rattle.kernels.specs.declared.mark.Drawing.the-variants.{Grid, Lines};
+ghost use Rattle.kernels.specs.declared.shape.Shape.the-variants.{Box};
 ghost use Rattle.kernels.specs.Mark.{minus, boxGrid, scaled};
 ghost use Rattle.kernels.specs.code.Drawing.{pieceMarks, drawnMarks};
 ghost use Rattle.plate.specs.Fixed.{planesInAll};
@@ -224,20 +225,20 @@ fn lay_drawing(planes: &mut [u64], g: Ground, d: Drawing, w: Worth)
     }
 }
 
-// What a mark of factor 1 of a pixel is worth.
-fn worth_of(p: Pixel, share: Share) -> Worth
-    ensures { λ r. ⌜ r ≡ worthOf p share ⌝ }
+// What a mark of factor 1 of a pixel is worth, with the share or the remainder that it carries.
+fn worth_of(p: Pixel, part: u32) -> Worth
+    ensures { λ r. ⌜ r ≡ worthOf p part ⌝ }
 {
-    let matte = p.opacity as u64 * share.each as u64;
+    let matte = p.opacity as u64 * part as u64;
     Worth {
         light: p.value as u64 * matte,
         matte: matte,
     }
 }
 
-// The marks of the kernel of a shape and a radius, its drawing laid from the corner; each mark is worth w for 1 of its
+// The marks of the taps of a shape and a radius, their drawing laid from the corner; each mark is worth w for 1 of its
 // coefficient. The worth is read first, whatever the shape, so that the compiler hands its numbers over in registers.
-fn lay_kernel(planes: &mut [u64], frame: Frame, corner: usize, shape: Shape, radius: u8, w: Worth)
+fn lay_taps(planes: &mut [u64], frame: Frame, corner: usize, shape: Shape, radius: u8, w: Worth)
     requires { ⌜ Roomy (groundOf frame corner) (length (now planes)) (ownMarks shape radius) ⌝ }
     ensures { λ _. ⌜ now (planes .exit) ≡ layDrawn (groundOf frame corner) w (now (planes .entry)) (ownMarks shape radius) ⌝ }
 {
@@ -253,17 +254,29 @@ fn lay_kernel(planes: &mut [u64], frame: Frame, corner: usize, shape: Shape, rad
     lay_drawing(planes, ground, kernels::mark::draw(shape, radius), worth);
 }
 
-// The cell that the kernel of the pixel at (x, y) has as its corner: as far in as the kernel leaves of the reach.
-fn corner_of(frame: Frame, x: usize, y: usize, p: Pixel) -> usize
-    requires { ⌜ Placed frame x y p ⌝ }
-    ensures { λ r. ⌜ r ≡ cornerOf frame x y p ⌝ }
+// The marks of a kernel's centre: a box of radius 0 in slope 0, laid from its corner.
+fn lay_centre(planes: &mut [u64], frame: Frame, corner: usize, w: Worth)
+    requires { ⌜ Roomy (groundOf frame corner) (length (now planes)) (ownMarks Box 0) ⌝ }
+    ensures { λ _. ⌜ now (planes .exit) ≡ layDrawn (groundOf frame corner) w (now (planes .entry)) (ownMarks Box 0) ⌝ }
 {
-    let shape = p.shape;
-    let spare = frame.size.reach - kernels::shape::reach(shape, p.radius);
+    let ground = Ground {
+        wide: frame.wide,
+        padded: frame.padded,
+        corner: corner,
+    };
+    lay_box(planes, ground, LEVEL, 1, w);
+}
+
+// The cell that a kernel around (x, y) has as its corner: as far in as it leaves of the plate's reach.
+fn corner_of(frame: Frame, x: usize, y: usize, reach: usize) -> usize
+    requires { ⌜ Placed frame x y × (reach ≤ frame .size .reach) ⌝ }
+    ensures { λ r. ⌜ r ≡ cornerOf frame x y reach ⌝ }
+{
+    let spare = frame.size.reach - reach;
     (y + spare) * frame.wide + (x + spare)
 }
 
-// Lays the marks of the pixel at (x, y).
+// Lays the marks of the pixel at (x, y): those of its taps, and those of its centre.
 pub(crate) fn lay_pixel(
     planes: &mut [u64],
     frame: Frame,
@@ -276,8 +289,12 @@ pub(crate) fn lay_pixel(
     ensures { λ _. ⌜ now (planes .exit) ≡ layAll (frame .size) (now (planes .entry)) (marksAt frame x y p) ⌝ }
 {
     let shape = p.shape;
-    let corner = corner_of(frame, x, y, p);
-    lay_kernel(planes, frame, corner, shape, p.radius, worth_of(p, share));
+    let taps = worth_of(p, share.each);
+    let centre = worth_of(p, share.rest);
+    let corner = corner_of(frame, x, y, kernels::shape::reach(shape, p.radius));
+    let middle = corner_of(frame, x, y, 0);
+    lay_taps(planes, frame, corner, shape, p.radius, taps);
+    lay_centre(planes, frame, middle, centre);
 }
 
 // Takes the marks of the pixel at (x, y) off.
@@ -293,13 +310,10 @@ pub(crate) fn take_pixel(
     ensures { λ _. ⌜ now (planes .exit) ≡ layAll (frame .size) (now (planes .entry)) (scaled (minus 1) (marksAt frame x y p)) ⌝ }
 {
     let shape = p.shape;
-    let corner = corner_of(frame, x, y, p);
-    lay_kernel(
-        planes,
-        frame,
-        corner,
-        shape,
-        p.radius,
-        opposite(worth_of(p, share)),
-    );
+    let taps = opposite(worth_of(p, share.each));
+    let centre = opposite(worth_of(p, share.rest));
+    let corner = corner_of(frame, x, y, kernels::shape::reach(shape, p.radius));
+    let middle = corner_of(frame, x, y, 0);
+    lay_taps(planes, frame, corner, shape, p.radius, taps);
+    lay_centre(planes, frame, middle, centre);
 }

@@ -10,7 +10,7 @@ mod records;
 mod table;
 
 use plate::{Bench, Engine, engines};
-use reference::kernel::{Kernel, Shape};
+use reference::kernel::{Kernel, SHAPES, Shape};
 use table::{Table, milliseconds, nanoseconds, ratio};
 
 const SHAPE: Shape = Shape::Octagon;
@@ -19,17 +19,22 @@ const MAIN: (usize, usize) = (2_048, 1_024);
 const RADII: [usize; 4] = [0, 1, 8, 64];
 const SIZES: [(usize, usize); 5] = [(64, 64), (256, 128), (1_024, 512), MAIN, (4_096, 512)];
 
+/// A radius that every shape has.
+const SHAPES_RADIUS: usize = 3;
+
 /// Beyond so many taps the tap-by-tap program is not waited for.
 const TAPS_WAITED_FOR: u64 = 2_000_000_000;
 
 fn main() {
     let engines = engines();
     println!(
-        "Octagons, reach {REACH}. Processor time, the best of several rounds of one run.\n"
+        "Octagons but for the last table, reach {REACH}. Processor time, the best of several \
+         rounds of one run.\n"
     );
     main_table(&engines);
     radius_table(&engines);
     size_table(&engines);
+    shape_table(&engines);
     record_line();
 }
 
@@ -39,7 +44,7 @@ fn main_table(engines: &[Engine]) {
     let mut bench = Bench::new(width, height, REACH);
     bench.lay_depth_ramp();
     let times = bench.run(engines, SHAPE, 15);
-    let handmade = times.engines.last().expect("the handmade engine is always there");
+    let handmade = times.handmade();
     println!("## {width} × {height}, radii 0 to 64 by a ramp of depths\n");
     let mut table = Table::new(&["call", "engine", "to handmade", "to one read", "time"]);
     for (engine, time) in engines.iter().zip(&times.engines) {
@@ -81,6 +86,8 @@ fn radius_table(engines: &[Engine]) {
     let mut table = Table::new(&[
         "radius",
         "engine",
+        "fill to handmade",
+        "put + undo to handmade",
         "fill to radius 0",
         "show to radius 0",
         "put + undo to radius 0",
@@ -96,12 +103,15 @@ fn radius_table(engines: &[Engine]) {
         bench.lay_radius(radius);
         let times = bench.run(engines, SHAPE, 9);
         let at_zero = at_zero.get_or_insert_with(|| times.engines.clone());
+        let handmade = times.handmade();
         let taps = Kernel::of(SHAPE, radius).area() * (width * height) as u64;
         let tap_by_tap = (taps < TAPS_WAITED_FOR).then(|| bench.tap_by_tap(SHAPE, radius));
         for ((engine, time), zero) in engines.iter().zip(&times.engines).zip(at_zero) {
             table.row([
                 radius.to_string(),
                 engine.name.into(),
+                ratio(time.fill, handmade.fill),
+                ratio(time.put_undo, handmade.put_undo),
                 ratio(time.fill, zero.fill),
                 ratio(time.show, zero.show),
                 ratio(time.put_undo, zero.put_undo),
@@ -122,6 +132,8 @@ fn size_table(engines: &[Engine]) {
     let mut table = Table::new(&[
         "plate",
         "engine",
+        "fill to handmade",
+        "put + undo to handmade",
         "fill to one read",
         "show to one read",
         "tap by tap to fill + show",
@@ -135,12 +147,15 @@ fn size_table(engines: &[Engine]) {
         let mut bench = Bench::new(width, height, REACH);
         bench.lay_radius(64);
         let times = bench.run(engines, SHAPE, 9);
+        let handmade = times.handmade();
         let taps = Kernel::of(SHAPE, 64).area() * (width * height) as u64;
         let tap_by_tap = (taps < TAPS_WAITED_FOR).then(|| bench.tap_by_tap(SHAPE, 64));
         for (engine, time) in engines.iter().zip(&times.engines) {
             table.row([
                 format!("{width} × {height}"),
                 engine.name.into(),
+                ratio(time.fill, handmade.fill),
+                ratio(time.put_undo, handmade.put_undo),
                 ratio(time.fill, times.read),
                 ratio(time.show, times.read),
                 tap_by_tap.map_or("not run".into(), |taps| ratio(taps, time.fill + time.show)),
@@ -149,6 +164,39 @@ fn size_table(engines: &[Engine]) {
                 nanoseconds(time.put_undo),
                 milliseconds(times.read),
                 tap_by_tap.map_or("not run".into(), milliseconds),
+            ]);
+        }
+    }
+    table.print();
+}
+
+/// Every shape, on the main size.
+fn shape_table(engines: &[Engine]) {
+    let (width, height) = MAIN;
+    println!("## {width} × {height}, every shape, radius {SHAPES_RADIUS} for all pixels\n");
+    let mut table = Table::new(&[
+        "shape",
+        "engine",
+        "fill to handmade",
+        "put + undo to handmade",
+        "fill",
+        "show",
+        "put + undo",
+    ]);
+    let mut bench = Bench::new(width, height, REACH);
+    bench.lay_radius(SHAPES_RADIUS);
+    for shape in SHAPES {
+        let times = bench.run(engines, shape, 9);
+        let handmade = times.handmade();
+        for (engine, time) in engines.iter().zip(&times.engines) {
+            table.row([
+                format!("{shape:?}").to_lowercase(),
+                engine.name.into(),
+                ratio(time.fill, handmade.fill),
+                ratio(time.put_undo, handmade.put_undo),
+                milliseconds(time.fill),
+                milliseconds(time.show),
+                nanoseconds(time.put_undo),
             ]);
         }
     }

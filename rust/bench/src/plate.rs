@@ -5,7 +5,7 @@ use std::time::Duration;
 
 use compare::engine::{self, Handmade};
 use compare::random::Random;
-use compare::step::PAPER_LENS;
+use compare::step::{PAPER_LENS, depth_of};
 use reference::kernel::Shape;
 use reference::marks::Layout;
 use reference::pixel::Pixel;
@@ -47,6 +47,13 @@ pub struct Times {
 pub struct Run {
     pub read: Duration,
     pub engines: Vec<Times>,
+}
+
+impl Run {
+    /// The baseline's times.
+    pub fn handmade(&self) -> Times {
+        *self.engines.last().expect("the handmade engine is always there")
+    }
 }
 
 /// Pairs of put and undo that are timed together.
@@ -106,11 +113,7 @@ impl Bench {
 
     /// Depths that give every pixel this radius with the paper's lens.
     pub fn lay_radius(&mut self, radius: usize) {
-        let depth = (20_000..10_000_000)
-            .chain([0])
-            .find(|&depth| usize::from(PAPER_LENS.radius(depth, 64)) == radius)
-            .expect("the lens gives every radius up to 64");
-        self.depths.fill(depth);
+        self.depths.fill(depth_of(radius));
         self.put_radius = radius as u8;
     }
 

@@ -1,9 +1,11 @@
 //! What the comparisons in `tests/` stand on: engines behind one trait, buffers between
-//! guard cells, calls made at random, and a list of calls held against the notebook.
+//! guard cells, calls made at random, a list of calls held against the notebook, and a plate
+//! for calls made one by one.
 
 pub mod engine;
 pub mod guard;
 pub mod list;
+pub mod plate;
 pub mod random;
 pub mod step;
 

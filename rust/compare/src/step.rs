@@ -64,6 +64,14 @@ const FAULT: usize = 14;
 /// The lens of the paper's examples: radius 64 at infinity, 0 at 2 m.
 pub const PAPER_LENS: Lens = Lens { opening: 250, focal: 500, focus: 20_000, pitch: 50 };
 
+/// A depth at which that lens gives this radius, 0 to 64.
+pub fn depth_of(radius: usize) -> u32 {
+    (PAPER_LENS.focus..FARTHEST)
+        .chain([0])
+        .find(|&depth| usize::from(PAPER_LENS.radius(depth, 64)) == radius)
+        .expect("the lens gives every radius up to 64")
+}
+
 /// Makes calls for plates of one size.
 pub struct Maker<'a> {
     pub random: &'a mut Random,

@@ -39,7 +39,7 @@ fn run_with_engine(object: &Path) {
         .expect("cc starts");
     assert!(status.success(), "the program does not link");
     let output = Command::new(&program).output().expect("the program starts");
-    let text = "put 0 8 count 1\nput 0 8 count 2\nput 8 0 count 2\n\
+    let text = "put 0 16 count 1\nput 0 16 count 2\nput 8 0 count 2\n\
                 show 0: 46/255 100/28 100/28\n\
                 show 0: 100/28 100/28 100/28\n\
                 show 0: 7/255 8/255 9/255\n";

@@ -1,76 +1,18 @@
-//! Every example that the paper gives by calls: the table of refused calls, 1 to 12, and
-//! the checked examples that show at a call. (13 to 16 are the record program's.)
+//! Every example that the paper gives by calls: the table of refused calls, 1 to 12, the
+//! checked examples that show at a call, and the mark counts. (13 to 16 are the record
+//! program's.)
 
 use compare::engine::{Engine, Handmade, Stored};
+use compare::plate::{Flat, Plate};
 use compare::step::PAPER_LENS;
 use reference::marks::Layout;
-use reference::{Answer, Fill, Lens, Put, State};
-
-/// A plate whose calls can be made with one argument changed.
-struct Plate {
-    state: State,
-    planes: Vec<u64>,
-    pixels: Vec<u64>,
-    log: Vec<u64>,
-}
+use reference::{Answer, Lens, Put, State};
 
 const PUT: Put = Put { x: 0, y: 0, value: 1, opacity: 1, shape: 0, radius: 0 };
+const FLAT: Flat = Flat { value: 1, opacity: 255, depth: 0 };
 
-impl Plate {
-    fn open<E: Engine>(width: usize, height: usize, reach: usize, room: usize) -> Plate {
-        let cells = Layout::of(width, height, reach).all_planes();
-        let mut plate = Plate {
-            state: State::default(),
-            planes: vec![0; cells],
-            pixels: vec![0; width * height],
-            log: vec![0; room],
-        };
-        let answer =
-            E::open(width, height, reach, &mut plate.planes, &mut plate.pixels, &mut plate.log);
-        assert_eq!(answer.number, 0);
-        plate.state = answer.state;
-        plate
-    }
-
-    fn put<E: Engine>(&mut self, put: Put) -> Answer {
-        let Plate { state, planes, pixels, log } = self;
-        let answer = E::put(*state, put, planes, pixels, log);
-        *state = answer.state;
-        answer
-    }
-
-    fn undo<E: Engine>(&mut self) -> Answer {
-        let Plate { state, planes, pixels, log } = self;
-        let answer = E::undo(*state, planes, pixels, log);
-        *state = answer.state;
-        answer
-    }
-
-    /// A fill of one value, opaque, at one depth.
-    fn fill<E: Engine>(&mut self, lens: Lens, shape: u8, value: u16, depth: u32) -> Answer {
-        let Plate { state, planes, pixels, log } = self;
-        let cells = pixels.len();
-        let fill = Fill {
-            lens,
-            shape,
-            values: &vec![value; cells],
-            opacities: &vec![255; cells],
-            depths: &vec![depth; cells],
-        };
-        let answer = E::fill(*state, &fill, planes, pixels, log);
-        *state = answer.state;
-        answer
-    }
-
-    fn show<E: Engine>(&self) -> (Vec<u16>, Vec<u8>) {
-        let mut scratch = vec![0; self.planes.len() / 14 * 3];
-        let mut values = vec![0; self.pixels.len()];
-        let mut mattes = vec![0; self.pixels.len()];
-        let answer = E::show(self.state, &self.planes, &mut scratch, &mut values, &mut mattes);
-        assert_eq!(answer.number, 0);
-        (values, mattes)
-    }
-}
+/// The marks of a kernel by shape: the paper's column, and the centre's four.
+const MARKS: [u32; 6] = [4 + 4, 9 + 4, 16 + 4, 8 + 4, 12 + 4, 12 + 4];
 
 fn refused_calls<E: Engine>() {
     // 1: W = 0. 4,096 × 512 passes, 4,096 × 513 not.
@@ -94,16 +36,16 @@ fn refused_calls<E: Engine>() {
     plate.state.count = 1;
     assert_eq!(plate.put::<E>(PUT).number, 3);
     assert_eq!(plate.undo::<E>().number, 3);
-    assert_eq!(plate.fill::<E>(PAPER_LENS, 0, 1, 0).number, 3);
+    assert_eq!(plate.fill::<E>(PAPER_LENS, 0, FLAT).number, 3);
 
     // 4 to 7: W = 3, x = 3; v = 4,096; shape 6; tent, R = 3, r = 2.
     let mut plate = Plate::open::<E>(3, 2, 3, 1);
     assert_eq!(plate.put::<E>(Put { x: 3, ..PUT }).number, 4);
     assert_eq!(plate.put::<E>(Put { y: 2, ..PUT }).number, 4);
     assert_eq!(plate.put::<E>(Put { value: 4_096, ..PUT }).number, 5);
-    assert_eq!(plate.fill::<E>(PAPER_LENS, 6, 4_096, 0).number, 5);
+    assert_eq!(plate.fill::<E>(PAPER_LENS, 6, Flat { value: 4_096, ..FLAT }).number, 5);
     assert_eq!(plate.put::<E>(Put { shape: 6, ..PUT }).number, 6);
-    assert_eq!(plate.fill::<E>(PAPER_LENS, 6, 1, 0).number, 6);
+    assert_eq!(plate.fill::<E>(PAPER_LENS, 6, FLAT).number, 6);
     assert_eq!(plate.put::<E>(Put { shape: 1, radius: 2, ..PUT }).number, 7);
     assert_eq!(plate.put::<E>(Put { shape: 1, radius: 1, ..PUT }).number, 0);
 
@@ -124,9 +66,9 @@ fn refused_calls<E: Engine>() {
     // 11 and 12: S = f; 10,000,001.
     let mut plate = Plate::open::<E>(3, 2, 3, 0);
     let lens = Lens { focus: PAPER_LENS.focal, ..PAPER_LENS };
-    assert_eq!(plate.fill::<E>(lens, 0, 1, 10_000_001).number, 11);
-    assert_eq!(plate.fill::<E>(PAPER_LENS, 0, 1, 10_000_001).number, 12);
-    assert_eq!(plate.fill::<E>(PAPER_LENS, 0, 1, 10_000_000).number, 0);
+    assert_eq!(plate.fill::<E>(lens, 0, Flat { depth: 10_000_001, ..FLAT }).number, 11);
+    assert_eq!(plate.fill::<E>(PAPER_LENS, 0, Flat { depth: 10_000_001, ..FLAT }).number, 12);
+    assert_eq!(plate.fill::<E>(PAPER_LENS, 0, Flat { depth: 10_000_000, ..FLAT }).number, 0);
 }
 
 fn checked_examples<E: Engine>() {
@@ -134,31 +76,53 @@ fn checked_examples<E: Engine>() {
     let mut plate = Plate::open::<E>(3, 1, 1, 64);
     plate.put::<E>(Put { x: 1, value: 100, opacity: 255, radius: 1, ..PUT });
     let answer = plate.put::<E>(Put { value: 40, opacity: 255, ..PUT });
-    assert_eq!(answer.marks, 8);
+    assert_eq!(answer.marks, 16);
     assert_eq!(plate.show::<E>(), (vec![46, 100, 100], vec![255, 28, 28]));
-    assert_eq!(plate.undo::<E>().marks, 8);
+    assert_eq!(plate.undo::<E>().marks, 16);
     assert_eq!(plate.show::<E>(), (vec![100; 3], vec![28; 3]));
 
     // D 250, f 500, S 20,000, p 50: Z 40,000 gives 32, 20,000 gives 0, 0 gives 64.
     let mut plate = Plate::open::<E>(1, 1, 64, 0);
     for (depth, radius) in [(40_000, 32), (20_000, 0), (0, 64)] {
-        plate.fill::<E>(PAPER_LENS, 0, 0, depth);
+        plate.fill::<E>(PAPER_LENS, 0, Flat { value: 0, depth, ..FLAT });
         assert_eq!(plate.pixels[0] >> 24, radius);
     }
     // D 1, f 1, S 2, p 100, Z 4: 2.5, so 3.
     let lens = Lens { opening: 1, focal: 1, focus: 2, pitch: 100 };
-    plate.fill::<E>(lens, 0, 0, 4);
+    plate.fill::<E>(lens, 0, Flat { value: 0, depth: 4, ..FLAT });
     assert_eq!(plate.pixels[0] >> 24, 3);
 
-    // Box shares: r = 1 gives 932,067; r = 64 gives 504. The kernel's first mark shows them.
+    // Box shares: r = 1 gives 932,067; r = 64 gives 504. The kernel's first mark shows them,
+    // and the centre's first mark what 8,388,608 has beyond 9 and 16,641 of them.
     let mut plate = Plate::open::<E>(1, 1, 64, 2);
     let columns = 1 + 2 * 64 + 6;
-    for (radius, share) in [(1, 932_067), (64, 504)] {
+    for (radius, share, rest) in [(1, 932_067, 5), (64, 504, 1_544)] {
         plate.put::<E>(Put { radius, ..PUT });
-        let corner = (67 - usize::from(radius)) * (columns + 1);
-        let level_matte = 9 * plate.planes.len() / 14;
-        assert_eq!(plate.planes[level_matte + corner], share);
+        let level_matte = &plate.planes[9 * plate.planes.len() / 14..];
+        assert_eq!(level_matte[(67 - usize::from(radius)) * (columns + 1)], share);
+        assert_eq!(level_matte[67 * (columns + 1)], rest);
     }
+}
+
+/// A put and its undo report the marks of both kernels, also where marks are worth nothing
+/// because of radius 0 or opacity 0: 16 to 40 in all.
+fn mark_counts<E: Engine>() {
+    let mut reported = Vec::new();
+    for (old, old_marks) in (0..).zip(MARKS) {
+        for (new, new_marks) in (0..).zip(MARKS) {
+            for (radius, opacity) in [(0, 255), (1, 255), (1, 0)] {
+                let mut plate = Plate::open::<E>(1, 1, 3, 2);
+                let put = Put { opacity, radius, ..PUT };
+                let first = plate.put::<E>(Put { shape: old, ..put });
+                assert_eq!(first.marks, MARKS[0] + old_marks);
+                let second = plate.put::<E>(Put { shape: new, ..put });
+                assert_eq!(second.marks, old_marks + new_marks);
+                assert_eq!(plate.undo::<E>().marks, second.marks);
+                reported.push(second.marks);
+            }
+        }
+    }
+    assert_eq!((reported.iter().min(), reported.iter().max()), (Some(&16), Some(&40)));
 }
 
 /// Light 5, matte 2: value 3. Matte 4,194,303 shows 0; 4,194,304 shows 1.
@@ -178,6 +142,7 @@ fn rounding<E: Engine>() {
 fn all<E: Engine>() {
     refused_calls::<E>();
     checked_examples::<E>();
+    mark_counts::<E>();
     rounding::<E>();
 }
 

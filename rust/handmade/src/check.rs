@@ -37,7 +37,9 @@ pub(crate) fn plate(
     Ok(layout)
 }
 
-/// With the pixel that stands at the place.
+/// With the pixel that stands at the place. Inlined, as undo's: handing the answer over
+/// through memory costs more than the checks.
+#[inline]
 pub(crate) fn put(
     state: State,
     x: usize,
@@ -58,6 +60,7 @@ pub(crate) fn put(
 }
 
 /// With the place, the pixel that stands there and the one to restore.
+#[inline]
 pub(crate) fn undo(
     state: State,
     planes: &[u64],

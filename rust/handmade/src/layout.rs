@@ -42,7 +42,7 @@ impl Layout {
     }
 
     /// The cell of image pixel (x, y) in a plane.
-    pub fn center(self, x: usize, y: usize) -> usize {
+    pub fn centre(self, x: usize, y: usize) -> usize {
         (y + self.margin) * self.stride + x + self.margin
     }
 }

@@ -13,7 +13,7 @@ mod layout;
 mod show;
 mod word;
 
-use kernel::{Pen, Worth};
+use kernel::{Pen, Worths};
 use layout::Layout;
 use word::Pixel;
 
@@ -118,9 +118,9 @@ fn change(
     old: Pixel,
     new: Pixel,
 ) -> u32 {
-    let center = layout.center(x, y);
-    kernel::lay(planes, layout, center, old, Worth::of(old).negated());
-    kernel::lay(planes, layout, center, new, Worth::of(new));
+    let centre = layout.centre(x, y);
+    kernel::lay(planes, layout, centre, old, Worths::of(old).negated());
+    kernel::lay(planes, layout, centre, new, Worths::of(new));
     kernel::MARKS[usize::from(old.shape)] + kernel::MARKS[usize::from(new.shape)]
 }
 
@@ -183,9 +183,8 @@ impl All<'_> {
                     radius: radius(self.lens, self.depths[place], top),
                 };
                 pixels[place] = pixel.word();
-                let center = layout.center(x, y);
-                Pen { planes, layout, center, worth: Worth::of(pixel) }
-                    .lay::<SHAPE>(pixel.radius);
+                let centre = layout.centre(x, y);
+                Pen { planes, layout, centre }.lay::<SHAPE>(pixel.radius, Worths::of(pixel));
             }
         }
     }

@@ -9,6 +9,9 @@ use crate::refusal::Refusal;
 ///
 /// A kernel of radius r covers r pixels to each side, a tent 2 r, a triple 3 r. That must
 /// be within the plate's reach. The greatest radius is 64, of a tent 8, of a triple 3.
+///
+/// Every kernel adds up to the whole exactly, so a flat layer stays flat to the code value,
+/// but for a border as wide as its kernel covers to a side.
 #[derive(Clone, Copy, Debug, PartialEq, Eq, Hash)]
 #[repr(u8)]
 pub enum Shape {
@@ -124,7 +127,7 @@ impl Plate {
     }
 
     /// Sets one pixel, remembers the old one in the undo log, and tells how many marks
-    /// that moved.
+    /// that moved, 16 to 40.
     ///
     /// # Errors
     /// [`Refusal::Place`], [`Refusal::Value`], [`Refusal::Radius`], or [`Refusal::LogFull`].
@@ -145,7 +148,7 @@ impl Plate {
         self.take(answer)
     }
 
-    /// Takes the last put back, and tells how many marks that moved.
+    /// Takes the last put back, and tells how many marks that moved, 16 to 40.
     ///
     /// # Errors
     /// [`Refusal::LogEmpty`].

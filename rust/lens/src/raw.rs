@@ -3,6 +3,8 @@
 //! Nothing is checked on this side: the engine takes any state and any lengths, and
 //! refuses what does not fit.
 
+use std::hint::black_box;
+
 /// The sizes of a plate, and how many entries its undo log holds.
 #[repr(C)]
 #[derive(Clone, Copy, Debug, Default, PartialEq, Eq)]
@@ -29,7 +31,7 @@ pub struct Lens {
 pub struct Answer {
     /// 0, or the number of the refusal.
     pub number: u32,
-    /// The marks that put or undo moved.
+    /// The marks that put or undo moved, 16 to 40; 0 from other calls and refused ones.
     pub marks: u32,
     pub state: State,
 }
@@ -104,6 +106,17 @@ unsafe extern "C" {
     ) -> Answer;
 }
 
+/// The answer of a put or an undo, its state taken number by number, as the engine wrote
+/// it. Taken in wider pieces it would wait until all marks before it are stored, and so
+/// would the next call.
+#[inline]
+fn taken(answer: Answer) -> Answer {
+    let State { width, height, reach, count } = answer.state;
+    let [width, height, reach, count] = [width, height, reach, count].map(black_box);
+    Answer { state: State { width, height, reach, count }, ..answer }
+}
+
+#[inline]
 pub fn open(
     width: usize,
     height: usize,
@@ -129,6 +142,7 @@ pub fn open(
     }
 }
 
+#[inline]
 #[expect(clippy::too_many_arguments, reason = "those of the C interface")]
 pub fn put(
     state: State,
@@ -142,7 +156,7 @@ pub fn put(
     pixels: &mut [u64],
     log: &mut [u64],
 ) -> Answer {
-    unsafe {
+    let answer = unsafe {
         lens_put(
             state,
             x,
@@ -158,11 +172,13 @@ pub fn put(
             log.as_mut_ptr(),
             log.len(),
         )
-    }
+    };
+    taken(answer)
 }
 
+#[inline]
 pub fn undo(state: State, planes: &mut [u64], pixels: &mut [u64], log: &mut [u64]) -> Answer {
-    unsafe {
+    let answer = unsafe {
         lens_undo(
             state,
             planes.as_mut_ptr(),
@@ -172,9 +188,11 @@ pub fn undo(state: State, planes: &mut [u64], pixels: &mut [u64], log: &mut [u64
             log.as_mut_ptr(),
             log.len(),
         )
-    }
+    };
+    taken(answer)
 }
 
+#[inline]
 #[expect(clippy::too_many_arguments, reason = "those of the C interface")]
 pub fn fill(
     state: State,
@@ -208,6 +226,7 @@ pub fn fill(
     }
 }
 
+#[inline]
 pub fn show(
     state: State,
     planes: &[u64],

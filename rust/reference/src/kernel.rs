@@ -2,8 +2,11 @@
 
 use std::sync::OnceLock;
 
-/// What the shares of a kernel add up to, but for rounding: 2^23.
+/// What the weights of a kernel add up to: 2^23.
 pub const WHOLE: u64 = 8_388_608;
+
+/// The marks of a kernel's centre, which gets what rounding the share down loses.
+pub const CENTRE_MARKS: u32 = 4;
 
 /// The greatest radius of any shape.
 pub const TOP: usize = 64;
@@ -49,8 +52,8 @@ impl Shape {
         }
     }
 
-    /// The paper's column "marks".
-    pub fn marks(self) -> u32 {
+    /// The paper's column "marks": those of the taps.
+    pub fn tap_marks(self) -> u32 {
         match self {
             Shape::Box => 4,
             Shape::Tent => 9,
@@ -58,6 +61,11 @@ impl Shape {
             Shape::Diamond => 8,
             Shape::Hexagon | Shape::Octagon => 12,
         }
+    }
+
+    /// All marks of a kernel, also where those of its centre are worth nothing.
+    pub fn marks(self) -> u32 {
+        self.tap_marks() + CENTRE_MARKS
     }
 
     /// The greatest radius on a plate of this reach.
@@ -157,6 +165,17 @@ impl Kernel {
     pub fn share(&self) -> u64 {
         WHOLE / self.area
     }
+
+    /// What rounding the share down loses.
+    pub fn rest(&self) -> u64 {
+        WHOLE - self.share() * self.area
+    }
+
+    /// The weight at (dx, dy): the share for each tap, and the rest at the centre.
+    pub fn weight(&self, dx: i64, dy: i64) -> u64 {
+        let centre = if dx == 0 && dy == 0 { self.rest() } else { 0 };
+        self.share() * self.tap(dx, dy) + centre
+    }
 }
 
 #[cfg(test)]
@@ -179,5 +198,32 @@ mod tests {
         assert_eq!([1, 2].map(|r| area(Shape::Octagon, r)), [5, 21]);
         assert_eq!(Kernel::of(Shape::Box, 1).share(), 932_067);
         assert_eq!(Kernel::of(Shape::Box, 64).share(), 504);
+        assert_eq!(area(Shape::Tent, 8), 83_521);
+        assert_eq!(Kernel::of(Shape::Tent, 8).share(), 100);
+    }
+
+    #[test]
+    fn marks_of_the_table() {
+        assert_eq!(SHAPES.map(Shape::tap_marks), [4, 9, 16, 8, 12, 12]);
+        assert_eq!(SHAPES.map(Shape::marks), [8, 13, 20, 12, 16, 16]);
+    }
+
+    #[test]
+    fn rests() {
+        let rest = |shape, radius| Kernel::of(shape, radius).rest();
+        assert_eq!([0, 1, 64].map(|r| rest(Shape::Box, r)), [0, 5, 1_544]);
+        assert_eq!(rest(Shape::Tent, 8), 36_508);
+    }
+
+    #[test]
+    fn weights_sum_to_the_whole() {
+        for shape in SHAPES {
+            for radius in 0..=shape.top() {
+                let kernel = Kernel::of(shape, radius);
+                let axis = || -kernel.reach()..=kernel.reach();
+                let row = |dy: i64| axis().map(|dx| kernel.weight(dx, dy)).sum::<u64>();
+                assert_eq!(axis().map(row).sum::<u64>(), WHOLE, "{shape:?} {radius}");
+            }
+        }
     }
 }

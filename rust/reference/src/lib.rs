@@ -1,4 +1,5 @@
-//! The paper `01-scope.md` in plain Rust, for engines to be compared with.
+//! The paper in plain Rust, for engines to be compared with: `01-scope.md`, and where
+//! `02-change-requests.md` says otherwise, that.
 //!
 //! Each module follows one section of the paper in its own words and takes the
 //! slow, obvious way. Pictures are made tap by tap: [`spread`] and [`notebook`]

@@ -54,8 +54,8 @@ pub struct Mark {
     pub plane: usize,
     pub column: i64,
     pub row: i64,
-    /// Its sign or factor.
-    pub factor: i64,
+    /// Its sign or factor, times the kernel's share, or times its rest for the centre's.
+    pub coefficient: i64,
 }
 
 /// The marks of a kernel. Each kernel's are made once.
@@ -65,7 +65,24 @@ pub fn marks_of(shape: Shape, radius: usize) -> &'static [Mark] {
     MARKS[usize::from(shape.number())][radius].get_or_init(|| make_marks(shape, radius))
 }
 
+/// The marks of the taps, each times the share, and those of a box of radius 0 at the
+/// centre, each times the rest.
 fn make_marks(shape: Shape, radius: usize) -> Vec<Mark> {
+    let kernel = Kernel::of(shape, radius);
+    let taps = scaled(tap_marks(shape, radius), kernel.share());
+    let centre = scaled(box_marks(1, 0, plane_of_slope(0)), kernel.rest());
+    [taps, centre].concat()
+}
+
+fn scaled(mut marks: Vec<Mark>, part: u64) -> Vec<Mark> {
+    for mark in &mut marks {
+        mark.coefficient *= part as i64;
+    }
+    marks
+}
+
+/// The marks of the taps, with their signs or factors alone.
+fn tap_marks(shape: Shape, radius: usize) -> Vec<Mark> {
     let r = radius as i64;
     let t = r / 2;
     match shape {
@@ -89,7 +106,7 @@ fn box_marks(n: i64, r: i64, plane: usize) -> Vec<Mark> {
     let mut marks = Vec::new();
     for &(row, down) in &axis {
         for &(column, across) in &axis {
-            marks.push(Mark { plane, column, row, factor: down * across });
+            marks.push(Mark { plane, column, row, coefficient: down * across });
         }
     }
     marks
@@ -128,12 +145,12 @@ impl Piece {
     fn marks(self, sign: i64) -> [Mark; 2] {
         let plane = plane_of_slope(self.slope);
         [
-            Mark { plane, column: self.column, row: self.row, factor: sign },
+            Mark { plane, column: self.column, row: self.row, coefficient: sign },
             Mark {
                 plane,
                 column: self.column + self.columns,
                 row: self.row + self.columns * self.slope,
-                factor: -sign,
+                coefficient: -sign,
             },
         ]
     }
@@ -171,18 +188,16 @@ fn pieces(r: i64, slopes: &[i64], row: impl Fn(i64) -> i64) -> Vec<Piece> {
 
 /// Adds a pixel's marks, `times` times: 1 lays them, −1 takes them off.
 pub fn lay(planes: &mut [u64], layout: Layout, x: usize, y: usize, pixel: Pixel, times: i64) {
-    let radius = usize::from(pixel.radius);
-    let share = Kernel::of(pixel.shape, radius).share();
-    let matte = u64::from(pixel.opacity) * share;
+    let matte = u64::from(pixel.opacity);
     let light = matte * u64::from(pixel.value);
-    for mark in marks_of(pixel.shape, radius) {
+    for mark in marks_of(pixel.shape, usize::from(pixel.radius)) {
         let column = (x + layout.margin) as i64 + mark.column;
         let row = (y + layout.margin) as i64 + mark.row;
         let cell = row as usize * layout.columns + column as usize;
-        let factor = (times * mark.factor) as u64;
+        let coefficient = (times * mark.coefficient) as u64;
         for (plane, worth) in [(mark.plane, light), (mark.plane + PLANES, matte)] {
             let cell = &mut planes[plane * layout.cells() + cell];
-            *cell = cell.wrapping_add(factor.wrapping_mul(worth));
+            *cell = cell.wrapping_add(coefficient.wrapping_mul(worth));
         }
     }
 }
@@ -251,6 +266,7 @@ fn down_sum(plane: &[u64], layout: Layout) -> Vec<u64> {
 #[cfg(test)]
 mod tests {
     use super::*;
+    use crate::kernel::WHOLE;
 
     #[test]
     fn every_kernel_makes_the_marks_of_the_table() {
@@ -262,9 +278,9 @@ mod tests {
         }
     }
 
-    /// The marks of every kernel, summed, are its taps.
+    /// The marks of every kernel, summed, are its weights, and these add up to the whole.
     #[test]
-    fn marks_sum_to_taps() {
+    fn marks_sum_to_weights() {
         for shape in SHAPES {
             for radius in 0..=shape.top() {
                 let kernel = Kernel::of(shape, radius);
@@ -278,9 +294,10 @@ mod tests {
                 for (place, sum) in sums.iter().enumerate() {
                     let dx = (place % side) as i64 - kernel.reach();
                     let dy = (place / side) as i64 - kernel.reach();
-                    let weight = kernel.share() * kernel.tap(dx, dy);
+                    let weight = kernel.weight(dx, dy);
                     assert_eq!(*sum, weight, "{shape:?} {radius} at {dx}, {dy}");
                 }
+                assert_eq!(sums.iter().sum::<u64>(), WHOLE, "{shape:?} {radius}");
             }
         }
     }

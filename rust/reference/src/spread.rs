@@ -55,24 +55,62 @@ struct Sum {
     matte: u64,
 }
 
-/// Adds one pixel's kernel to the cells of the image that it reaches.
+/// Adds one pixel's kernel to the cells of the image that it reaches: the share for each
+/// tap, and the rest at the centre, which is the pixel's own cell.
 fn spread(pixel: Pixel, x: usize, y: usize, width: usize, height: usize, sums: &mut [Sum]) {
     let kernel = Kernel::of(pixel.shape, usize::from(pixel.radius));
-    let matte = u64::from(pixel.opacity) * kernel.share();
-    let light = u64::from(pixel.value) * matte;
+    let share = worth(pixel, kernel.share());
     let (left, top) = (x as i64 - kernel.reach(), y as i64 - kernel.reach());
     let columns = inside(left, x as i64 + kernel.reach(), width);
     for row in inside(top, y as i64 + kernel.reach(), height) {
         let cells = &mut sums[row * width..][columns.clone()];
         let taps = &kernel.row(row as i64 - y as i64)[(columns.start as i64 - left) as usize..];
         for (cell, tap) in cells.iter_mut().zip(taps) {
-            cell.matte += matte * tap;
-            cell.light += light * tap;
+            cell.matte += share.matte * tap;
+            cell.light += share.light * tap;
         }
     }
+    let rest = worth(pixel, kernel.rest());
+    let centre = &mut sums[y * width + x];
+    centre.matte += rest.matte;
+    centre.light += rest.light;
+}
+
+/// What a pixel adds to a cell where its kernel weighs this much.
+fn worth(pixel: Pixel, weight: u64) -> Sum {
+    let matte = u64::from(pixel.opacity) * weight;
+    Sum { light: u64::from(pixel.value) * matte, matte }
 }
 
 /// The part of first ..= last that is inside 0 .. end.
 fn inside(first: i64, last: i64, end: usize) -> Range<usize> {
     first.max(0) as usize..(last + 1).min(end as i64) as usize
+}
+
+#[cfg(test)]
+mod tests {
+    use super::*;
+    use crate::kernel::SHAPES;
+
+    /// The middle cell of a flat layer that has the kernel's square on the plate.
+    fn middle_shown(pixel: Pixel) -> (u16, u8) {
+        let reach = Kernel::of(pixel.shape, usize::from(pixel.radius)).reach() as usize;
+        let side = 2 * reach + 1;
+        let pixels = vec![pixel; side * side];
+        let shown = pictures(&Grid { width: side, height: side, pixels });
+        let middle = reach * side + reach;
+        (shown.values[middle], shown.mattes[middle])
+    }
+
+    #[test]
+    fn a_flat_layer_stays_flat() {
+        for shape in SHAPES {
+            for radius in 0..=shape.top_under(16) as u8 {
+                for (value, opacity) in [(4_095, 255), (1_000, 254), (1, 1)] {
+                    let shown = middle_shown(Pixel { value, opacity, shape, radius });
+                    assert_eq!(shown, (value, opacity), "{shape:?} {radius}");
+                }
+            }
+        }
+    }
 }

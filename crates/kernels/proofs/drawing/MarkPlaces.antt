@@ -4,18 +4,18 @@ use mathlib.Core.List.{List, [], _∷_, _++_}
 use Prim.Native.Nat.{ℕ, zero, suc, _+_, _*_, _-_, _≤_, _<_}
 use native.Mathlib.Omega.{arith}
 use native.Mathlib.Nat.{mul-le-mul-right}
-use lib.ListN.{length}
-use Rattle.kernels.specs.Fixed.{planesEach, level, secondBox, thirdBox, margin}
-use Rattle.kernels.specs.Shape.{Shape, Box, Tent, Triple, Diamond, Hexagon, Octagon, reachOf, countOf}
-use Rattle.kernels.specs.Tap.{half, share}
-use Rattle.kernels.specs.Mark.{Mark, mark, minus, sign, choose, Run, runRow, lineMarks, flipped, outlineMarks, marksTo, boxGrid, boxMarks, twoRuns, diamondMarks, hexagonMarks, octagonMarks, tapMarks, scaled, marks}
+use lib.ListN.{length, length-append}
+use Rattle.kernels.specs.Fixed.{centreCount, planesEach, level, secondBox, thirdBox, margin}
+use Rattle.kernels.specs.Shape.{Shape, Box, Tent, Triple, Diamond, Hexagon, Octagon, reachOf, tapCount, countOf}
+use Rattle.kernels.specs.Tap.{half, share, rest}
+use Rattle.kernels.specs.Mark.{Mark, mark, minus, sign, choose, Run, runRow, lineMarks, flipped, outlineMarks, marksTo, boxGrid, boxMarks, twoRuns, diamondMarks, hexagonMarks, octagonMarks, tapMarks, scaled, centreMarks, marks}
 use Rattle.kernels.specs.Facts.{Inside, Each, Near, NearFact}
 use Rattle.kernels.proofs.marking.MarkLists.{each-append, each-one, each-to}
 use Rattle.kernels.proofs.marking.Kernel.{Walks, diamond-walks, hexagon-walks, octagon-walks}
 use Rattle.kernels.specs.code.Drawing.{moved}
 
 -- AS MANY AS THE TABLE SAYS
-tap-marks-count : (s : Shape) (r X Y : ℕ) → length (tapMarks s r X Y) ≡ countOf s
+tap-marks-count : (s : Shape) (r X Y : ℕ) → length (tapMarks s r X Y) ≡ tapCount s
 unfolding tapMarks boxMarks boxGrid marksTo diamondMarks hexagonMarks octagonMarks outlineMarks lineMarks flipped
 tap-marks-count Box r X Y = refl
 tap-marks-count Tent r X Y = refl
@@ -29,9 +29,20 @@ unfolding scaled
 scaled-length c [] = refl
 scaled-length c (m ∷ ms) = ap suc (scaled-length c ms)
 
+centre-marks-count : (X Y : ℕ) → length (centreMarks X Y) ≡ centreCount
+unfolding centreMarks boxMarks boxGrid marksTo
+centre-marks-count X Y = refl
+
 pub marks-count : (s : Shape) (r X Y : ℕ) → length (marks s r X Y) ≡ countOf s
 unfolding marks
-marks-count s r X Y = scaled-length (share s r) (tapMarks s r X Y) ∙ tap-marks-count s r X Y
+marks-count s r X Y =
+    length-append (scaled (share s r) (tapMarks s r X Y)) (scaled (rest s r) (centreMarks X Y))
+    ∙ rw (
+      scaled-length (share s r) (tapMarks s r X Y),
+      scaled-length (rest s r) (centreMarks X Y),
+      tap-marks-count s r X Y,
+      centre-marks-count X Y,
+    )
 
 -- INSIDE THE MARGIN
 scaled-near : (c d X Y : ℕ) (ms : List Mark) → Each (Near d X Y) ms → Each (Near d X Y) (scaled c ms)
@@ -84,12 +95,20 @@ unfolding Each
 near-more d e X Y [] h n = tt
 near-more d e X Y (m ∷ ms) h n = (omega arith, near-more d e X Y ms h (n .1))
 
+pub tap-marks-within : (s : Shape) (r R X Y : ℕ) → reachOf s r ≤ R → R + margin ≤ X → R + margin ≤ Y
+    → Each (Near (R + margin) X Y) (tapMarks s r X Y)
+tap-marks-within s r R X Y h p q =
+    near-more (reachOf s r + margin) (R + margin) X Y (tapMarks s r X Y) (omega arith)
+    (tap-marks-near s r X Y (omega arith) (omega arith))
+
+-- the centre's marks are those of a box of radius 0
 pub marks-near : NearFact
 unfolding marks
 marks-near s r R X Y h p q =
-    scaled-near (share s r) (R + margin) X Y (tapMarks s r X Y)
-    (near-more (reachOf s r + margin) (R + margin) X Y (tapMarks s r X Y) (omega arith)
-    (tap-marks-near s r X Y (omega arith) (omega arith)))
+    each-append (Near (R + margin) X Y) _ _
+    (scaled-near (share s r) (R + margin) X Y (tapMarks s r X Y) (tap-marks-within s r R X Y h p q))
+    (scaled-near (rest s r) (R + margin) X Y (centreMarks X Y)
+    (unfold centreMarks tapMarks in (tap-marks-within Box 0 R X Y (omega arith) p q)))
 
 -- THEY MOVE WITH THE CENTRE
 moved-append : (a b : ℕ) (ms ns : List Mark) → moved a b (ms ++ ns) ≡ moved a b ms ++ moved a b ns

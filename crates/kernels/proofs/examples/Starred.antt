@@ -5,7 +5,7 @@ use Rattle.kernels.specs.Fixed.{unit}
 use Rattle.kernels.specs.Choice.{within, same}
 use Rattle.kernels.specs.Sum.{sum}
 use Rattle.kernels.specs.Shape.{Box}
-use Rattle.kernels.specs.Tap.{shift, box, convolved, one, boxTap, tap, octagonTap, area, share}
+use Rattle.kernels.specs.Tap.{shift, box, convolved, one, boxTap, tap, octagonTap, area, shareFor, share}
 use Rattle.kernels.specs.Rounding.{nearest, shownValue, shownMatte}
 use Rattle.kernels.specs.Lens.{blur}
 use Rattle.kernels.specs.Starred.{starred, Agree}
@@ -13,11 +13,11 @@ use Rattle.kernels.proofs.taps.Areas.{countedArea, area-counted}
 
 -- an area that is long to sum up tap by tap
 wide-share : share Box 64 ≡ 504
-unfolding share countedArea
+unfolding shareFor countedArea
 wide-share = ap (λ (n : ℕ). unit / n) (area-counted Box 64)
 
 pub starred-agree : Agree starred
-unfolding Agree area share tap octagonTap boxTap convolved box shift one sum within same blur nearest shownValue shownMatte
+unfolding Agree area shareFor tap octagonTap boxTap convolved box shift one sum within same blur nearest shownValue shownMatte
 starred-agree = (
   refl,
   (

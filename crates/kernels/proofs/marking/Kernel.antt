@@ -6,15 +6,16 @@ use native.Mathlib.Omega.{arith}
 use native.Mathlib.Nat.{mul-le-mul-left, le-of-lt}
 use Rattle.kernels.specs.Sum.{dist, finish}
 use Rattle.kernels.specs.Shape.{Shape, Box, Tent, Triple, Diamond, Hexagon, Octagon, reachOf}
-use Rattle.kernels.specs.Tap.{half, tap, octagonTap, share, weight}
-use Rattle.kernels.specs.Mark.{Run, run, flipped, threeRuns, twoRuns, diamondMarks, hexagonMarks, octagonMarks, tapMarks, scaled, marks, planesOf}
+use Rattle.kernels.specs.Choice.{within, same}
+use Rattle.kernels.specs.Tap.{boxTap, half, tap, octagonTap, share, rest, weight}
+use Rattle.kernels.specs.Mark.{Run, run, flipped, threeRuns, twoRuns, diamondMarks, hexagonMarks, octagonMarks, tapMarks, scaled, centreMarks, marks, planesOf}
 use Rattle.kernels.specs.Facts.{columnsOf, rowAt, Inside, KernelFact}
-use Rattle.kernels.proofs.numbers.Choices.{by-lt}
-use Rattle.kernels.proofs.sums.FiniteSums.{cong-mul}
+use Rattle.kernels.proofs.numbers.Choices.{by-lt, if-within, same-yes, same-no, same-mul}
+use Rattle.kernels.proofs.sums.FiniteSums.{cong-add, cong-mul}
 use Rattle.kernels.proofs.sums.PlaneSums.{up2, up1, up0, down1, down2, first, second, third}
 use Rattle.kernels.proofs.marking.BoxGrids.{box-kernel}
 use Rattle.kernels.proofs.marking.LineFact.{row-first, row-rest, Sloping}
-use Rattle.kernels.proofs.marking.MarkLists.{finish-scaled}
+use Rattle.kernels.proofs.marking.MarkLists.{finish-append, finish-scaled}
 use Rattle.kernels.proofs.taps.TapForms.{box-tap, columnTap, diamondHeight, hexagonHeight, octagonHeight, diamond-columns, hexagon-columns, octagon-columns}
 use Rattle.kernels.proofs.marking.Outlines.{outline-fact}
 
@@ -146,9 +147,42 @@ tap-kernel Hexagon r X Y x y p q =
 tap-kernel Octagon r X Y x y p q =
     unfold tap in (octagon-kernel r (half r) X Y x y (omega arith) (omega arith) (omega arith))
 
+-- THE CENTRE
+-- a box of radius 0 is 1 at the centre
+centre-tap : (dx dy : ℕ) → boxTap 1 0 dx * boxTap 1 0 dy ≡ same dx 0 (same dy 0 1)
+unfolding tap
+centre-tap dx dy =
+    sym (box-tap 0 dx dy)
+    ∙ within-same dx (within dy 0 1)
+    ∙ ap (same dx 0) (within-same dy 1)
+  where
+    within-same : (d w : ℕ) → within d 0 w ≡ same d 0 w
+    within-same d w = if-within d 0 w _ (λ h. sym (same-yes d 0 w (omega arith))) (λ h. sym (same-no d 0 w (omega arith)))
+
+centre-kernel : (c X Y x y : ℕ)
+    → c * finish (planesOf (centreMarks X Y)) x y % 2 ^ 64 ≡ same (dist x X) 0 (same (dist y Y) 0 c) % 2 ^ 64
+unfolding centreMarks
+centre-kernel c X Y x y =
+    cong-mul (2 ^ 64) c c _ _ refl (box-kernel first 0 X Y x y (omega arith) (omega arith) ∙ ap (λ (n : ℕ). n % 2 ^ 64) (centre-tap dx dy))
+    ∙ ap (λ (n : ℕ). n % 2 ^ 64) (sym (same-mul c dx 0 (same dy 0 1)) ∙ ap (same dx 0) (sym (same-mul c dy 0 1) ∙ ap (same dy 0) (omega arith)))
+  where
+    dx : ℕ
+    dx = dist x X
+
+    dy : ℕ
+    dy = dist y Y
+
 -- THE KERNEL: the finished sum of its marks times w is w times its weight, in every cell
 pub kernel : KernelFact
 unfolding marks weight
 kernel s r w X Y x y p q =
-    rw (finish-scaled w (scaled (share s r) (tapMarks s r X Y)) x y, finish-scaled (share s r) (tapMarks s r X Y) x y)
-    (cong-mul (2 ^ 64) w w _ _ refl (cong-mul (2 ^ 64) (share s r) (share s r) _ _ refl (tap-kernel s r X Y x y p q)))
+    rw (
+      finish-scaled w (marks s r X Y) x y,
+      finish-append (scaled (share s r) (tapMarks s r X Y)) (scaled (rest s r) (centreMarks X Y)) x y,
+      finish-scaled (share s r) (tapMarks s r X Y) x y,
+      finish-scaled (rest s r) (centreMarks X Y) x y,
+    )
+    (cong-mul (2 ^ 64) w w _ _ refl
+    (cong-add _ _ _ _
+    (cong-mul (2 ^ 64) (share s r) (share s r) _ _ refl (tap-kernel s r X Y x y p q))
+    (centre-kernel (rest s r) X Y x y)))

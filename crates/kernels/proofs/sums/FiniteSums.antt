@@ -51,6 +51,22 @@ sum-product f g m n =
     ∙ sym (sum-mul (sum g n) f m)
     ∙ sum-ext _ _ (λ i. mul-comm (sum g n) (f i) ∙ sym (sum-mul (f i) g n)) m
 
+-- the sum of a + b terms is that of the first a and that of the b after them
+pub sum-parts : (f : Row) (a b : ℕ) → sum f (a + b) ≡ sum f a + sum (λ k. f (a + k)) b
+unfolding sum
+sum-parts f a zero = let e : a + 0 ≡ a = omega arith in rw e (omega arith)
+sum-parts f a (suc b) = let e : a + suc b ≡ suc (a + b) = omega arith in rw e (omega (arith, sum-parts f a b))
+
+pub sum-none : (f : Row) (n : ℕ) → ((k : ℕ) → k < n → f k ≡ 0) → sum f n ≡ 0
+sum-none f n h = sum-ext-lt f (λ k. 0) n h ∙ sum-zero n
+
+-- a row that is 0 before cell a, and 0 again b cells further on, is summed over those b cells alone
+pub sum-between : (f : Row) (a b c : ℕ) → ((k : ℕ) → k < a → f k ≡ 0) → ((k : ℕ) → a + b ≤ k → f k ≡ 0)
+    → sum f (a + b + c) ≡ sum (λ k. f (a + k)) b
+sum-between f a b c before after =
+    let rest = sum-none (λ k. f (a + b + k)) c (λ k h. after (a + b + k) (omega arith)) in
+    omega (arith, sum-parts f (a + b) c, sum-parts f a b, sum-none f a before, rest)
+
 -- a term is at most the sum
 pub term-le : (f : Row) (k n : ℕ) → k < n → f k ≤ sum f n
 unfolding sum

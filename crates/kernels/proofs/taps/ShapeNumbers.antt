@@ -42,8 +42,8 @@ top-small Diamond = lit≤ tt
 top-small Hexagon = lit≤ tt
 top-small Octagon = lit≤ tt
 
--- a kernel has 4 to 16 marks
-pub count-few : (s : Shape) → (4 ≤ countOf s) × (countOf s ≤ 16)
+-- "a kernel has 8 to 20 marks"
+pub count-few : (s : Shape) → (8 ≤ countOf s) × (countOf s ≤ 20)
 count-few Box = (lit≤ tt, lit≤ tt)
 count-few Tent = (lit≤ tt, lit≤ tt)
 count-few Triple = (lit≤ tt, lit≤ tt)

@@ -9,7 +9,7 @@ use Rattle.kernels.specs.Sum.{sum, Row, dist, finish}
 use Rattle.kernels.specs.Mark.{Mark, marksTo, planesOf}
 use Rattle.kernels.proofs.numbers.Choices.{by-lt, within-yes, within-no}
 use Rattle.kernels.proofs.numbers.Products.{product-le}
-use Rattle.kernels.proofs.sums.FiniteSums.{sum-ext-lt, sum-zero, sum-cong}
+use Rattle.kernels.proofs.sums.FiniteSums.{sum-ext-lt, sum-none, sum-cong}
 use Rattle.kernels.proofs.sums.PlaneSums.{_≈²_, finish-cong-planes}
 use Rattle.kernels.proofs.marking.MarkLists.{planes-to, finish-to}
 use Rattle.kernels.proofs.taps.Areas.{weight-le}
@@ -86,8 +86,7 @@ module _ (z : Size) (planes : List ℕ) (grid : List Pixel) (law : LawfulSize z)
     stored-outside : (d x y : ℕ) → (x < wide z → y < high z → ⊥) → planesOf (allLaid z grid worth) d x y ≡ 0
     stored-outside d x y n =
         planes-to (gridLaid z grid worth) (places z) d x y
-        ∙ sum-ext-lt _ (λ i. 0) (places z) (λ i g. laid-outside z law i g (pixelAt grid i) (fits i) d x y _ n)
-        ∙ sum-zero (places z)
+        ∙ sum-none _ (places z) (λ i g. laid-outside z law i g (pixelAt grid i) (fits i) d x y _ n)
 
     stored-all : (d : ℕ) → d < planesEach → stored z planes p d ≈² planesOf (allLaid z grid worth) d
     unfolding stored

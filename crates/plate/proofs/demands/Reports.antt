@@ -1,5 +1,5 @@
 -- The mark counts of the reports: an accepted put or undo reports the marks of the shape that left plus those of the shape that
--- came, which are 8 to 32; every other report has none.
+-- came, which are 16 to 40; every other report has none.
 use mathlib.Core.Path.{_≡_, refl}
 use mathlib.Core.List.{List, [], _∷_}
 use Prim.Native.Nat.{ℕ, _+_, _*_, _≤_}
@@ -24,7 +24,7 @@ use Rattle.plate.proofs.demands.Mirror.{Mirrored, mirror, put-agrees, u
 use Rattle.plate.specs.Kernel.{markCount}
 
 -- NUMBERS
-pub counts-few : (s t : Shape) → (8 ≤ countOf s + countOf t) × (countOf s + countOf t ≤ 32)
+pub counts-few : (s t : Shape) → (16 ≤ countOf s + countOf t) × (countOf s + countOf t ≤ 40)
 counts-few s t =
     let a = count-few s in
     let b = count-few t in
@@ -83,10 +83,10 @@ module _ (z : Size) (room : ℕ) (planes : List ℕ) (grid : List Pixel) where
   unfolding plateStep bookUndo bookUndoOf
   undo-reports e pile kept = undo-agrees z room planes grid (e ∷ pile) kept .same-report
 
--- 8 TO 32
--- a put or an undo: 8 to 32 marks if accepted, none if refused
+-- 16 TO 40
+-- a put or an undo: 16 to 40 marks if accepted, none if refused
 pub record Few (r : Report) : Type 0 where
-  pub if-accepted : r .number ≡ 0 → (8 ≤ r .marks) × (r .marks ≤ 32)
+  pub if-accepted : r .number ≡ 0 → (16 ≤ r .marks) × (r .marks ≤ 40)
   pub if-refused : (r .number ≡ 0 → ⊥) → r .marks ≡ 0
 
 few : (s t : Shape) (r : Report) → Told (countOf s + countOf t) r → Few r
@@ -135,7 +135,7 @@ unfolding Counted bookReports
 book-counted b [] = tt
 book-counted b (c ∷ cs) = (step-counted b c, book-counted (bookStep b c .book) cs)
 
--- in every list after an accepted open, an accepted put or undo reports 8 to 32 marks and every other call none
+-- in every list after an accepted open, an accepted put or undo reports 16 to 40 marks and every other call none
 pub plate-counted : (z : Size) (l : Lent) (calls : List Call) → openCheck z (sizedAs l) ≡ Accepted
     → Counted calls (plateReports (leftBy (openCall z l)) calls)
 plate-counted z l calls e = rw (demand-3 z l calls e .0) (book-counted _ calls)

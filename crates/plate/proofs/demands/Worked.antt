@@ -4,9 +4,9 @@ use mathlib.Core.Path.{_≡_, refl, _∙_}
 use mathlib.Core.List.{List, [], _∷_}
 use Prim.Native.Nat.{ℕ}
 use lib.Dec.{lit<}
-use Rattle.kernels.specs.Choice.{within}
+use Rattle.kernels.specs.Choice.{within, same}
 use Rattle.kernels.specs.Sum.{sum}
-use Rattle.kernels.specs.Tap.{tap, area, share, weight}
+use Rattle.kernels.specs.Tap.{tap, area, shareFor, restFor, weight}
 use Rattle.kernels.specs.Rounding.{nearest, shownValue, shownMatte}
 use Rattle.plate.specs.Layout.{Size}
 use Rattle.plate.specs.Refusal.{Accepted, refuseIf, sizesCheck, lentCheck, placeCheck, shapeCheck, radiusCheck, askCheck, viewsCheck, openCheck}
@@ -44,18 +44,18 @@ run = putIt 1 0 100 byte-255 0 byte-1 ∷ putIt 0 0 40 byte-255 0 byte-0 ∷ sho
 abbrev showReport : List ℕ → List ℕ → Report
 showReport values mattes = record { number = 0; marks = 0; pictures = both values mattes }
 
--- "46/255 100/28 100/28" and "100/28 100/28 100/28"; a box and a box are 8 marks
+-- "46/255 100/28 100/28" and "100/28 100/28 100/28"; a box and a box are 16 marks
 abbrev pub runReports : List Report
 runReports =
-    plain 0 8
-    ∷ plain 0 8
+    plain 0 16
+    ∷ plain 0 16
     ∷ showReport (46 ∷ 100 ∷ 100 ∷ []) (255 ∷ 28 ∷ 28 ∷ [])
-    ∷ plain 0 8
+    ∷ plain 0 16
     ∷ showReport (100 ∷ 100 ∷ 100 ∷ []) (28 ∷ 28 ∷ 28 ∷ [])
     ∷ []
 
 pub book-run : bookReports (openBook threeByOne 64) run ≡ runReports
-unfolding bookReports bookStep bookPut bookPutBy bookUndo bookUndoOf bookShow bookShowBy askCheck placeCheck shapeCheck radiusCheck refuseIf viewsCheck plainValues plainMattes plainSum listTo weight share area tap sum within shownValue shownMatte nearest
+unfolding bookReports bookStep bookPut bookPutBy bookUndo bookUndoOf bookShow bookShowBy askCheck placeCheck shapeCheck radiusCheck refuseIf viewsCheck plainValues plainMattes plainSum listTo weight shareFor restFor area tap sum within same shownValue shownMatte nearest
 book-run = refl
 
 open-accepted : openCheck threeByOne (sizedAs buffers) ≡ Accepted

@@ -1,31 +1,32 @@
 -- A kernel's drawing, laid from its corner, is the kernel's marks laid around its pixel.
 use mathlib.Core.Path.{_≡_, refl, ap, _∙_}
-use mathlib.Core.List.{List, [], _∷_}
+use mathlib.Core.List.{List, [], _∷_, _++_}
 use Prim.Native.Nat.{ℕ, _+_, _*_, _-_, _%_, _^_, _≤_, _<_}
 use native.Mathlib.Omega.{arith}
 use native.Mathlib.Nat.{mul-assoc, mod-mod, mod-eq-of-lt, div-eq-of-lt, mul-add-mod-self-right, mul-add-div-right, mul-le-mul-right}
 use Rattle.kernels.specs.declared.shape.Shape.{Shape}
 use Rattle.kernels.specs.declared.shape.Shape.the-variants.{Box, Tent, Triple, Diamond, Hexagon, Octagon}
 use Rattle.kernels.specs.Shape.{reachOf, topOf}
-use Rattle.kernels.specs.Tap.{share, shareUpTo}
+use Rattle.kernels.specs.Tap.{share, rest}
 use Rattle.kernels.specs.declared.share.Share.{Share}
 use Rattle.kernels.specs.Share.{shareParts}
-use Rattle.plate.proofs.laying.Cells.{reach-under}
-use Rattle.kernels.specs.Mark.{Mark, minus, scaled, tapMarks, marks}
-use Rattle.kernels.specs.code.Drawing.{moved, drawingOf}
-use Rattle.kernels.proofs.numbers.Choices.{within-yes}
+use Rattle.kernels.specs.Mark.{Mark, minus, boxGrid, scaled, tapMarks, centreMarks, marks}
+use Rattle.kernels.specs.code.Drawing.{moved, drawnMarks, drawingOf}
+use Rattle.kernels.proofs.drawing.Drawings.{drawing-marks}
+use Rattle.kernels.proofs.taps.Shares.{parts-under}
 use Rattle.kernels.specs.Facts.{Each, Near}
-use Rattle.kernels.proofs.drawing.MarkPlaces.{marks-near, tap-marks-moved}
+use Rattle.kernels.proofs.drawing.MarkPlaces.{tap-marks-within, tap-marks-moved}
 use Rattle.plate.specs.Fixed.{planesInAll}
 use Rattle.plate.specs.Layout.{Size, wide, high, padded, columnOf, rowOf}
 use Rattle.plate.specs.Word.{Pixel}
 use Rattle.plate.specs.Marks.{inBoth, pixelMarks, cellOf, layOne, layAll}
 use Rattle.plate.proofs.numbers.Extents.{place-within}
+use Rattle.plate.proofs.laying.Cells.{reach-under}
 use Rattle.plate.proofs.laying.LaidCells.{lay-one-mod}
-use Rattle.plate.specs.code.Laying.{Worth, worthOf, Ground, layWorth, layDrawn, FewBoxes, AllIn, Roomy, Placed, ownMarks, groundOf, spare, cornerOf, kernelAt, marksAt}
+use Rattle.plate.specs.code.Laying.{Worth, times, worthOf, Ground, layWorth, layDrawn, FewBoxes, AllIn, Roomy, Placed, PixelReady, ownMarks, groundOf, spare, cornerOf, kernelAt, marksAt}
 use Rattle.plate.specs.code.Bounds.{Frame, frameOf}
 use Rattle.plate.proofs.laying.Worths.{times-number}
-use Rattle.kernels.specs.Fixed.{planesEach, margin}
+use Rattle.kernels.specs.Fixed.{planesEach, level, margin}
 
 -- WHERE A PIXEL LIES
 -- "place being y × W + x"
@@ -48,16 +49,16 @@ abbrev groundIn : Size → ℕ → ℕ → Ground
 groundIn z a b = groundOf (frameOf z) (b * wide z + a)
 
 -- marks near enough to a pixel lie in the planes
-near-in-ground : (z : Size) (a b c d X Y : ℕ) → X + d < wide z → Y + d < high z → (ms : List Mark)
-    → Each (Near d X Y) (scaled c (moved a b ms)) → AllIn (groundIn z a b) ms
-unfolding Each scaled moved AllIn
-near-in-ground z a b c d X Y p q [] h = tt
-near-in-ground z a b c d X Y p q (m ∷ ms) h =
+near-in-ground : (z : Size) (a b d X Y : ℕ) → X + d < wide z → Y + d < high z → (ms : List Mark)
+    → Each (Near d X Y) (moved a b ms) → AllIn (groundIn z a b) ms
+unfolding Each moved AllIn
+near-in-ground z a b d X Y p q [] h = tt
+near-in-ground z a b d X Y p q (m ∷ ms) h =
     let n = h .0 in
     let right = n .right-in in
     let bottom = n .bottom-in in (
       cell-in (wide z) (high z) a b (m .plane) (m .column) (m .row) (n .plane-in) (omega arith) (omega arith),
-      near-in-ground z a b c d X Y p q ms (h .1),
+      near-in-ground z a b d X Y p q ms (h .1),
     )
 
 -- LAID
@@ -98,73 +99,97 @@ around z x y s r h k =
     rw (column-at z x y h, row-at z x y h, column, row)
     (tap-marks-moved (x + (z .reach - n)) (y + (z .reach - n)) s r (n + margin) (n + margin) (omega arith) (omega arith))
 
-module _ (f : Frame) (x y : ℕ) (p : Pixel) (placed : Placed f x y p) where
-  pub reaches : reachOf (p .shape) (p .radius) ≤ f .size .reach
-  reaches = reach-under (f .size .reach) (p .shape) (p .radius) (placed .radius-fits)
-
-  -- the corner of the drawing is a cell of a plane
-  pub corner-in : cornerOf f x y p < f .padded
-  corner-in =
+module _ (f : Frame) (x y : ℕ) (placed : Placed f x y) where
+  -- the corner of a drawing is a cell of a plane
+  pub corner-in : (m : ℕ) → cornerOf f x y m < f .padded
+  corner-in m =
       let z = f .size in
-      let s = spare f p in
+      let s = spare f m in
       let column = placed .column-in in
       let row = placed .row-in in
       rw (placed .framed) (place-within (x + s) (y + s) (wide z) (high z) (omega arith) (omega arith))
 
-  -- the kernel's marks, laid from its corner, are those around the pixel
-  pub kernel-laid : (w : Worth) (cells : List ℕ)
-      → layDrawn (groundOf f (cornerOf f x y p)) w cells (ownMarks (p .shape) (p .radius))
-      ≡ layAll (f .size) cells (kernelAt f x y p w)
-  kernel-laid w cells =
-      rw (around (f .size) x y (p .shape) (p .radius) (placed .column-in) reaches, placed .framed)
-      (drawn-laid (f .size) w _ _ cells (ownMarks (p .shape) (p .radius)))
+  module _ (s : Shape) (r : ℕ) (reaches : reachOf s r ≤ f .size .reach) where
+    -- a kernel's marks, laid from its corner, are those around the place
+    pub kernel-laid : (w : Worth) (cells : List ℕ)
+        → layDrawn (groundOf f (cornerOf f x y (reachOf s r))) w cells (ownMarks s r) ≡ layAll (f .size) cells (kernelAt f x y s r w)
+    kernel-laid w cells =
+        rw (around (f .size) x y s r (placed .column-in) reaches, placed .framed)
+        (drawn-laid (f .size) w _ _ cells (ownMarks s r))
 
-  -- and lie in the planes
-  pub kernel-inside : AllIn (groundOf f (cornerOf f x y p)) (ownMarks (p .shape) (p .radius))
-  unfolding marks
-  kernel-inside =
-      let z = f .size in
-      let R = z .reach in
-      let X = columnOf z (y * z .width + x) in
-      let Y = rowOf z (y * z .width + x) in
-      let right = placed .column-in in
-      let low = placed .row-in in
-      let column = column-at z x y right in
-      let row = row-at z x y right in
-      rw (placed .framed)
-      (near-in-ground z _ _ (share (p .shape) (p .radius)) (R + margin) X Y (omega arith) (omega arith) (ownMarks (p .shape) (p .radius))
-      (rw (around z x y (p .shape) (p .radius) right reaches) at
-      (marks-near (p .shape) (p .radius) R X Y reaches (omega arith) (omega arith))))
+    -- and lie in the planes
+    kernel-inside : AllIn (groundOf f (cornerOf f x y (reachOf s r))) (ownMarks s r)
+    kernel-inside =
+        let z = f .size in
+        let R = z .reach in
+        let X = columnOf z (y * z .width + x) in
+        let Y = rowOf z (y * z .width + x) in
+        let right = placed .column-in in
+        let low = placed .row-in in
+        let column = column-at z x y right in
+        let row = row-at z x y right in
+        rw (placed .framed)
+        (near-in-ground z _ _ (R + margin) X Y (omega arith) (omega arith) (ownMarks s r)
+        (rw (around z x y s r right reaches) at (tap-marks-within s r R X Y reaches (omega arith) (omega arith))))
 
-  -- so that a plate has room for them
-  pub kernel-roomy : (n : ℕ) → n ≡ planesInAll * f .padded
-      → Roomy (groundOf f (cornerOf f x y p)) n (ownMarks (p .shape) (p .radius))
-  kernel-roomy n e = record { planes-are = e; inside = kernel-inside }
+    -- so that a plate has room for them
+    pub kernel-roomy : (n : ℕ) → n ≡ planesInAll * f .padded → Roomy (groundOf f (cornerOf f x y (reachOf s r))) n (ownMarks s r)
+    kernel-roomy n e = record { planes-are = e; inside = kernel-inside }
 
--- PIXELS
+-- PARTS
+-- one list of marks after another
+lay-append : (z : Size) (cells : List ℕ) (ms ns : List Mark) → layAll z cells (ms ++ ns) ≡ layAll z (layAll z cells ms) ns
+unfolding layAll
+lay-append z cells [] ns = refl
+lay-append z cells (m ∷ ms) ns = lay-append z (layOne cells (cellOf z m) (m .coefficient)) ms ns
+
+-- the marks of a kernel's taps around (x, y) laid with one worth, and those of its centre, a box of radius 0, with another
+abbrev partsAt : Frame → ℕ → ℕ → Shape → ℕ → Worth → Worth → List Mark
+partsAt f x y s r taps centre = kernelAt f x y s r taps ++ kernelAt f x y Box 0 centre
+
+-- each laid from its own corner
+parts-laid : (f : Frame) (x y : ℕ) → Placed f x y → (s : Shape) (r : ℕ) → reachOf s r ≤ f .size .reach
+    → (taps centre : Worth) (cells : List ℕ)
+    → layDrawn (groundOf f (cornerOf f x y 0)) centre
+    (layDrawn (groundOf f (cornerOf f x y (reachOf s r))) taps cells (ownMarks s r)) (ownMarks Box 0)
+    ≡ layAll (f .size) cells (partsAt f x y s r taps centre)
+parts-laid f x y placed s r reaches taps centre cells =
+    rw (kernel-laid f x y placed Box 0 (omega arith), kernel-laid f x y placed s r reaches, lay-append)
+
 -- the share goes into the worth
 both-scaled : (l m c : ℕ) (ms : List Mark) → inBoth l m (scaled c ms) ≡ inBoth (l * c) (m * c) ms
 unfolding inBoth scaled
 both-scaled l m c [] = refl
 both-scaled l m c (k ∷ ms) = rw (← mul-assoc l c (k .coefficient), ← mul-assoc m c (k .coefficient), both-scaled l m c ms)
 
+both-append : (l m : ℕ) (ms ns : List Mark) → inBoth l m (ms ++ ns) ≡ inBoth l m ms ++ inBoth l m ns
+unfolding inBoth
+both-append l m [] ns = refl
+both-append l m (k ∷ ms) ns = rw (both-append l m ms ns)
+
 -- "A mark is worth its sign or factor times a × s, and in light times v as well"
-pub pixel-worth : (f : Frame) (x y : ℕ) (p : Pixel) (s : Share) → Placed f x y p → s ≡ shareParts (p .shape) (p .radius)
-    → kernelAt f x y p (worthOf p s) ≡ marksAt f x y p
-unfolding pixelMarks marks shareUpTo shareParts
-pixel-worth f x y p s placed e =
+part-worth : (p : Pixel) (c : ℕ) (ms : List Mark)
+    → inBoth (p .value * p .opacity) (p .opacity) (scaled c ms) ≡ inBoth (worthOf p c .light) (worthOf p c .matte) ms
+part-worth p c ms = rw (both-scaled, mul-assoc (p .value) (p .opacity) c)
+
+-- the taps with the share and the centre with the remainder are the pixel's marks
+pixel-worth : (f : Frame) (x y : ℕ) (p : Pixel) (s : Share) → p .radius ≤ topOf (p .shape)
+    → s ≡ shareParts (p .shape) (p .radius)
+    → partsAt f x y (p .shape) (p .radius) (worthOf p (s .each)) (worthOf p (s .rest)) ≡ marksAt f x y p
+unfolding pixelMarks marks centreMarks tapMarks
+pixel-worth f x y p s h e =
     rw (
-      e,
-      within-yes (p .radius) (topOf (p .shape)) (share (p .shape) (p .radius)) (omega (arith, placed .radius-fits)),
-      both-scaled,
-      mul-assoc (p .value) (p .opacity) (share (p .shape) (p .radius)),
+      e ∙ parts-under (p .shape) (p .radius) h,
+      both-append,
+      part-worth p (share (p .shape) (p .radius)),
+      part-worth p (rest (p .shape) (p .radius)),
     )
 
 -- minus a worth is laid as minus its marks
 opposite-alike : (l c : ℕ) → ((l * minus 1) % 2 ^ 64 * c) % 2 ^ 64 ≡ (minus 1 * (l * c)) % 2 ^ 64
 opposite-alike l c = times-number l (minus 1) c ∙ ap (λ (n : ℕ). n % 2 ^ 64) (omega arith)
 
-pub opposite-laid : (z : Size) (l m : ℕ) (cells : List ℕ) (ms : List Mark)
+opposite-laid : (z : Size) (l m : ℕ) (cells : List ℕ) (ms : List Mark)
     → layAll z cells (inBoth ((l * minus 1) % 2 ^ 64) ((m * minus 1) % 2 ^ 64) ms)
     ≡ layAll z cells (scaled (minus 1) (inBoth l m ms))
 unfolding layAll inBoth scaled
@@ -174,7 +199,57 @@ opposite-laid z l m cells (k ∷ ms) =
     (lay-alike-both cells (cellOf z k) _ _ _ _ _ (opposite-alike l (k .coefficient)) (opposite-alike m (k .coefficient)))
     ∙ opposite-laid z l m _ ms
 
+scaled-append : (c : ℕ) (ms ns : List Mark) → scaled c (ms ++ ns) ≡ scaled c ms ++ scaled c ns
+unfolding scaled
+scaled-append c [] ns = refl
+scaled-append c (m ∷ ms) ns = rw (scaled-append c ms ns)
+
+-- and so of both parts of a kernel
+opposite-parts : (f : Frame) (x y : ℕ) (s : Shape) (r : ℕ) (taps centre : Worth) (cells : List ℕ)
+    → layAll (f .size) cells (partsAt f x y s r (times taps (minus 1)) (times centre (minus 1)))
+    ≡ layAll (f .size) cells (scaled (minus 1) (partsAt f x y s r taps centre))
+opposite-parts f x y s r taps centre cells =
+    rw (
+      lay-append,
+      opposite-laid (f .size) (taps .light) (taps .matte),
+      opposite-laid (f .size) (centre .light) (centre .matte),
+      scaled-append,
+      lay-append,
+    )
+
+-- PIXELS
+module _ (f : Frame) (n x y : ℕ) (p : Pixel) (q : Share) (h : PixelReady f n x y p q) where
+  -- "r is also at most R / n rounded down", so that its kernel keeps to the plate's reach
+  pub pixel-reaches : reachOf (p .shape) (p .radius) ≤ f .size .reach
+  pixel-reaches = reach-under (f .size .reach) (p .shape) (p .radius) (h .radius-fits)
+
+  -- its taps with their share, then its centre with the remainder, each laid from its own corner
+  abbrev partsLaid : List ℕ → Worth → Worth → List ℕ
+  partsLaid cells taps centre =
+      layDrawn (groundOf f (cornerOf f x y 0)) centre
+      (layDrawn (groundOf f (cornerOf f x y (reachOf (p .shape) (p .radius)))) taps cells (ownMarks (p .shape) (p .radius)))
+      (ownMarks Box 0)
+
+  pub pixel-laid : (cells : List ℕ) → partsLaid cells (worthOf p (q .each)) (worthOf p (q .rest)) ≡ layAll (f .size) cells (marksAt f x y p)
+  pixel-laid cells =
+      parts-laid f x y (h .placed) (p .shape) (p .radius) pixel-reaches _ _ cells
+      ∙ ap (layAll (f .size) cells) (pixel-worth f x y p q (omega (arith, h .radius-fits)) (h .share-is))
+
+  -- and with what wraps to their opposites
+  pub pixel-taken : (cells : List ℕ) → partsLaid cells (times (worthOf p (q .each)) (minus 1)) (times (worthOf p (q .rest)) (minus 1))
+      ≡ layAll (f .size) cells (scaled (minus 1) (marksAt f x y p))
+  pixel-taken cells =
+      parts-laid f x y (h .placed) (p .shape) (p .radius) pixel-reaches _ _ cells
+      ∙ opposite-parts f x y (p .shape) (p .radius) (worthOf p (q .each)) (worthOf p (q .rest)) cells
+      ∙ ap (λ (ms : List Mark). layAll (f .size) cells (scaled (minus 1) ms))
+      (pixel-worth f x y p q (omega (arith, h .radius-fits)) (h .share-is))
+
 -- BOXES
+-- the centre's box has a side of one cell
+pub centre-grid : boxGrid level 1 1 margin margin ≡ ownMarks Box 0
+unfolding drawnMarks drawingOf
+centre-grid = drawing-marks Box 0
+
 -- a kernel has one to three of them
 pub few-boxes : (s : Shape) (r : ℕ) → FewBoxes (drawingOf s r)
 unfolding FewBoxes drawingOf

@@ -28,9 +28,9 @@ pub use Rattle.plate.specs.declared.lay.Ground.{Ground}
 abbrev pub times : Worth → ℕ → Worth
 times w c = record { light = (w .light * c) % 2 ^ 64; matte = (w .matte * c) % 2 ^ 64 }
 
--- what a mark of factor 1 is worth, with its share: "a × s, and in light times v as well"
-abbrev pub worthOf : Pixel → Share → Worth
-worthOf p s = record { light = p .value * (p .opacity * s .each); matte = p .opacity * s .each }
+-- what a mark of factor 1 is worth, with the share or the remainder that it carries: "a × s, and in light times v as well"
+abbrev pub worthOf : Pixel → ℕ → Worth
+worthOf p c = record { light = p .value * (p .opacity * c); matte = p .opacity * c }
 
 -- MARKS
 -- the cell of a light plane at a column and a row of a drawing
@@ -86,40 +86,41 @@ pub record ColumnIn (g : Ground) (b : Boxes) (x n : ℕ) : Type 0 where
   pub two-at-least : 2 ≤ b .count
   pub three-at-most : b .count ≤ 3
 
--- PIXELS
--- a pixel at (x, y) of a plate with its frame, and a radius that keeps to its reach
-pub record Placed (f : Frame) (x y : ℕ) (p : Pixel) : Type 0 where
+-- KERNELS
+-- a place (x, y) of a plate with its frame
+pub record Placed (f : Frame) (x y : ℕ) : Type 0 where
   pub framed : f ≡ frameOf (f .size)
   pub column-in : x < f .size .width
   pub row-in : y < f .size .height
-  pub radius-fits : p .radius ≤ topUnder (p .shape) (f .size .reach)
-
--- and there are n cells in all planes, and its kernel's share at hand
-pub record PixelReady (f : Frame) (n x y : ℕ) (p : Pixel) (s : Share) : Type 0 where
-  pub placed : Placed f x y p
-  pub planes-are : n ≡ planesInAll * f .padded
-  pub share-is : s ≡ shareParts (p .shape) (p .radius)
-
--- a kernel's marks, counted from the corner of its drawing
-abbrev pub ownMarks : Shape → ℕ → List Mark
-ownMarks s r = tapMarks s r (reachOf s r + margin) (reachOf s r + margin)
 
 -- a corner on a plate
 abbrev pub groundOf : Frame → ℕ → Ground
 groundOf f corner = record { wide = f .wide; padded = f .padded; corner = corner }
 
--- what a pixel's kernel leaves of the reach on each side, and the cell of its corner
-abbrev pub spare : Frame → Pixel → ℕ
-spare f p = f .size .reach - reachOf (p .shape) (p .radius)
+-- what a kernel that reaches m leaves of the plate's reach on each side, and the cell of its corner
+abbrev pub spare : Frame → ℕ → ℕ
+spare f m = f .size .reach - m
 
-abbrev pub cornerOf : Frame → ℕ → ℕ → Pixel → ℕ
-cornerOf f x y p = (y + spare f p) * f .wide + (x + spare f p)
+abbrev pub cornerOf : Frame → ℕ → ℕ → ℕ → ℕ
+cornerOf f x y m = (y + spare f m) * f .wide + (x + spare f m)
 
--- the taps of its kernel around it, laid with a worth
-abbrev pub kernelAt : Frame → ℕ → ℕ → Pixel → Worth → List Mark
-kernelAt f x y p w =
+-- the marks of a kernel's taps, counted from the corner of its drawing
+abbrev pub ownMarks : Shape → ℕ → List Mark
+ownMarks s r = tapMarks s r (reachOf s r + margin) (reachOf s r + margin)
+
+-- and around (x, y), laid with a worth
+abbrev pub kernelAt : Frame → ℕ → ℕ → Shape → ℕ → Worth → List Mark
+kernelAt f x y s r w =
     let i = y * f .size .width + x in
-    inBoth (w .light) (w .matte) (tapMarks (p .shape) (p .radius) (columnOf (f .size) i) (rowOf (f .size) i))
+    inBoth (w .light) (w .matte) (tapMarks s r (columnOf (f .size) i) (rowOf (f .size) i))
+
+-- PIXELS
+-- a pixel at (x, y) whose radius keeps to the plate's reach, n cells in all planes, and its kernel's share at hand
+pub record PixelReady (f : Frame) (n x y : ℕ) (p : Pixel) (s : Share) : Type 0 where
+  pub placed : Placed f x y
+  pub planes-are : n ≡ planesInAll * f .padded
+  pub radius-fits : p .radius ≤ topUnder (p .shape) (f .size .reach)
+  pub share-is : s ≡ shareParts (p .shape) (p .radius)
 
 -- its marks
 abbrev pub marksAt : Frame → ℕ → ℕ → Pixel → List Mark

@@ -3,9 +3,9 @@ use mathlib.Core.Path.{_≡_, refl, _∙_}
 use mathlib.Core.List.{List, [], _∷_}
 use Prim.Native.Nat.{ℕ}
 use lib.Dec.{T, ltb, lit<}
-use Rattle.kernels.specs.Choice.{within}
+use Rattle.kernels.specs.Choice.{within, same}
 use Rattle.kernels.specs.Sum.{sum}
-use Rattle.kernels.specs.Tap.{tap, area, share, weight}
+use Rattle.kernels.specs.Tap.{tap, area, shareFor, restFor, weight}
 use Rattle.kernels.specs.Rounding.{nearest, shownValue, shownMatte}
 use Rattle.plate.specs.Refusal.{refuseIf, sizesCheck, placeCheck, shapeCheck, radiusCheck, askCheck}
 use Rattle.plate.specs.Calls.{listTo}
@@ -41,7 +41,7 @@ printed =
     []
 
 pub worked-text : paperText (codes input) ≡ printed
-unfolding paperText textFrom act opens itemsOf itemsBy recordOf sizesCheck refuseIf bookPut bookPutBy bookUndo bookUndoOf bookShowBy askCheck placeCheck shapeCheck radiusCheck reportText answerText pictureText showText headLine rowsText rowText cellText doneLine decimal digitsBy plainValues plainMattes plainSum listTo weight share area tap sum within shownValue shownMatte nearest
+unfolding paperText textFrom act opens itemsOf itemsBy recordOf sizesCheck refuseIf bookPut bookPutBy bookUndo bookUndoOf bookShowBy askCheck placeCheck shapeCheck radiusCheck reportText answerText pictureText showText headLine rowsText rowText cellText doneLine decimal digitsBy plainValues plainMattes plainSum listTo weight shareFor restFor area tap sum within same shownValue shownMatte nearest
 worked-text = refl
 
 -- so the machine writes it too

@@ -1,11 +1,28 @@
--- `share::share_in` meets its contract: the place of a shape and of one of its radii lies in the table.
-use mathlib.Core.Path.{sym}
+-- `share::share_in` meets its contract: the place of a shape and of one of its radii lies in the table, and a row is taken apart.
+use mathlib.Core.Path.{_≡_, sym, _∙_}
+use Prim.Native.Nat.{ℕ, _+_, _*_, _/_, _^_}
+use lib.ListN.{getD}
+use denote.Ref.{now}
+use Rattle.kernels.specs.Fixed.{radii}
 use native.Mathlib.Omega.{arith}
-use borrow.Author.Needs.{needs}
+use lib.Bits.{bitAnd, and-mask}
+use Rattle.kernels.specs.Share.{shareFrom, shareIn}
+use mir.Facts.{fits-mask}
 use Rattle.kernels.proofs.taps.ShapeNumbers.{number-le}
 use Rattle.kernels.proofs.taps.Shares.{share-there, share-nowhere}
+use borrow.Author.Needs.{needs}
 use Rattle.kernels.proofs.share.share_in.Statement.{statement}
 use Rattle.kernels.proofs.share.share_in.Tie as tie
+
+-- the row that is read
+abbrev row : tie.After-row → ℕ
+row c =
+    let a = c .before .before .before .args in
+    getD (now (a .table)) (radii * c .before .number .result + a .radius) 0
+
+-- a mask is a remainder
+masked : (row : ℕ) → shareFrom (bitAnd row 4294967295) (bitAnd (row / 2 ^ 32) 4294967295) ≡ shareIn row
+masked row = rw (and-mask row 32, and-mask (row / 2 ^ 32) 32)
 
 number-requires : tie.Need-number-requires
 number-requires c κs = search needs
@@ -19,14 +36,22 @@ mul-place c = search needs
 add-place : tie.Need-add-place
 add-place c = search needs
 
-mul-t9 : tie.Need-mul-t9
-mul-t9 c = search needs
+mul-row : tie.Need-mul-row
+mul-row c = search needs
 
-element-copy-out-t14 : tie.Need-element-copy-out-t14
-element-copy-out-t14 c = omega (arith, number-le (c .before .before .args .s))
+element-copy-out-row : tie.Need-element-copy-out-row
+element-copy-out-row c = omega (arith, number-le (c .before .before .args .s))
+
+cast-t16 : tie.Need-cast-t16
+cast-t16 c = fits-mask (row c) 32 tt
+
+cast-t19 : tie.Need-cast-t19
+cast-t19 c = fits-mask (row c / 2 ^ 32) 32 tt
 
 returns : tie.Need-returns
-returns c = rw (c .before .number .ensures) (sym (share-there _ _ _ (omega arith)))
+returns c =
+    masked (row c)
+    ∙ rw (c .before .number .ensures) (sym (share-there _ _ _ (omega arith)))
 
 returns-2 : tie.Need-returns-2
 returns-2 c = sym (share-nowhere _ _ _ (omega arith))
@@ -39,7 +64,9 @@ share-in-spec =
     cast-place
     mul-place
     add-place
-    mul-t9
-    element-copy-out-t14
+    mul-row
+    element-copy-out-row
+    cast-t16
+    cast-t19
     returns
     returns-2)

@@ -1,15 +1,15 @@
--- `share::shares` meets its contract: antt computes the test of the whole table, which is the table's rule at each entry.
+-- `share::shares` meets its contract: antt computes the test of the whole table, which is the table's rule at each row.
 use mathlib.Core.Path.{refl}
 use Rattle.kernels.specs.Choice.{within}
-use Rattle.kernels.specs.Sum.{sum}
+use Rattle.kernels.specs.Tap.{shareFor, restFor}
 use Rattle.kernels.proofs.taps.Areas.{countedArea}
 use Rattle.kernels.proofs.taps.ValueLists.{valuesFrom}
-use Rattle.kernels.proofs.taps.Shares.{quickShare, quickShareAt, table-tested}
+use Rattle.kernels.proofs.taps.Shares.{quickRow, quickRowAt, table-tested}
 use Rattle.kernels.proofs.share.shares.Statement.{statement}
 use Rattle.kernels.proofs.share.shares.Tie as tie
 
 returns : tie.Need-returns
-unfolding valuesFrom quickShareAt quickShare countedArea within sum
+unfolding valuesFrom quickRowAt quickRow shareFor restFor countedArea within
 returns c = table-tested _ refl refl
 
 pub shares-spec : {M : Type 1} → statement M

@@ -1,40 +1,82 @@
--- The kernel laid from its corner lies around the pixel, and with its share its marks are the pixel's.
+-- With its share and its remainder, what is laid are the pixel's marks.
+use mathlib.Core.Path.{_∙_}
+use native.Mathlib.Omega.{arith}
 use borrow.Author.Needs.{needs}
-use Rattle.plate.proofs.laying.Corners.{kernel-roomy, kernel-laid, pixel-worth}
+use Rattle.kernels.specs.declared.shape.Shape.the-variants.{Box}
+use Rattle.plate.proofs.laying.Corners.{kernel-roomy, pixel-reaches, pixel-laid}
 use Rattle.plate.proofs.lay.lay_pixel.Statement.{statement}
 use Rattle.plate.proofs.lay.lay_pixel.Tie as tie
 
-corner-of-requires : tie.Need-corner-of-requires
-corner-of-requires c κs = c .before .pre .placed
+abbrev start : tie.After-reach → tie.Start
+start c = c .before .before .before .before
 
 worth-of-requires : tie.Need-worth-of-requires
 worth-of-requires c κs = search needs
 
-lay-kernel-requires : tie.Need-lay-kernel-requires
-lay-kernel-requires c κs =
+worth-of-requires-2 : tie.Need-worth-of-requires-2
+worth-of-requires-2 c κs = search needs
+
+reach-requires : tie.Need-reach-requires
+reach-requires c κs = search needs
+
+corner-of-requires : tie.Need-corner-of-requires
+corner-of-requires c κs =
+    let s = start c in
+    (s .pre .placed, rw (c .reach .ensures) (pixel-reaches _ _ _ _ _ _ (s .pre)))
+
+corner-of-requires-2 : tie.Need-corner-of-requires-2
+corner-of-requires-2 c κs = search needs
+
+lay-taps-requires : tie.Need-lay-taps-requires
+lay-taps-requires c κs =
     let cornered = c .before .before in
-    let h = cornered .before .before .pre in
-    rw (cornered .corner-of .ensures) (kernel-roomy _ _ _ _ (h .placed) _ (h .planes-are))
+    let reached = cornered .before in
+    let s = start reached in
+    rw (cornered .corner-of .ensures, reached .reach .ensures)
+    (kernel-roomy _ _ _ (s .pre .placed) _ _ (pixel-reaches _ _ _ _ _ _ (s .pre)) _ (s .pre .planes-are))
+
+lay-centre-requires : tie.Need-lay-centre-requires
+lay-centre-requires c κs =
+    let middle = c .before .before .before .before .before in
+    let s = start (middle .before .before) in
+    rw (middle .corner-of2 .ensures)
+    (kernel-roomy _ _ _ (s .pre .placed) Box 0 (omega arith) _ (search needs ∙ s .pre .planes-are))
 
 same-length : tie.Need-same-length
 same-length c = search needs
 
 returns : tie.Need-returns
 returns c =
-    let laid = c .before .before in
-    let worth = laid .before in
-    let cornered = worth .before .before in
-    let s = cornered .before .before in
+    let centred = c .before .before in
+    let laid = centred .before .before .before .before in
+    let middle = laid .before .before in
+    let cornered = middle .before in
+    let reached = cornered .before in
+    let centre = reached .before in
+    let taps = centre .before in
+    let s = start reached in
     let a = s .args in
     rw (
-      laid .lay-kernel .ensures,
+      centred .lay-centre .ensures,
+      middle .corner-of2 .ensures,
+      laid .lay-taps .ensures,
       cornered .corner-of .ensures,
-      kernel-laid (a .frame) (a .x) (a .y) (a .p) (s .pre .placed),
-      worth .worth-of .ensures,
-      pixel-worth (a .frame) (a .x) (a .y) (a .p) _ (s .pre .placed) (s .pre .share-is),
+      reached .reach .ensures,
+      centre .worth-of2 .ensures,
+      taps .worth-of .ensures,
     )
+    (pixel-laid (a .frame) _ (a .x) (a .y) (a .p) (a .share) (s .pre) _)
 
 pub lay-pixel-spec : {M : Type 1} → statement M
 lay-pixel-spec =
     tie.close
-    (tie.spec corner-of-requires worth-of-requires lay-kernel-requires same-length returns)
+    (tie.spec
+    worth-of-requires
+    worth-of-requires-2
+    reach-requires
+    corner-of-requires
+    corner-of-requires-2
+    lay-taps-requires
+    lay-centre-requires
+    same-length
+    returns)

@@ -48,13 +48,9 @@ lay-pixel-requires c κs =
     let start = known .before .before .before .before in
     let h = start .pre in
     record {
-      placed = record {
-        framed = h .0 .framed;
-        column-in = h .2 .column-in;
-        row-in = h .2 .row-in;
-        radius-fits = omega (arith, radius known, h .0 .top-is);
-      };
+      placed = record { framed = h .0 .framed; column-in = h .2 .column-in; row-in = h .2 .row-in };
       planes-are = rw (h .0 .framed) (h .0 .planes-are);
+      radius-fits = omega (arith, radius known, h .0 .top-is);
       share-is = shared .share-in .ensures ∙ rw (h .1) (table-share _ _);
     }
 

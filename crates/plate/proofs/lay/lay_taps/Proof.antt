@@ -2,8 +2,8 @@
 use borrow.Author.Needs.{needs}
 use Rattle.kernels.proofs.drawing.Drawings.{drawing-marks}
 use Rattle.plate.proofs.laying.Corners.{few-boxes}
-use Rattle.plate.proofs.lay.lay_kernel.Statement.{statement}
-use Rattle.plate.proofs.lay.lay_kernel.Tie as tie
+use Rattle.plate.proofs.lay.lay_taps.Statement.{statement}
+use Rattle.plate.proofs.lay.lay_taps.Tie as tie
 
 draw-requires : tie.Need-draw-requires
 draw-requires c κs = search needs
@@ -23,5 +23,5 @@ returns : tie.Need-returns
 returns c =
     let laid = c .before .before in rw (laid .lay-drawing .ensures, laid .before .draw .ensures, drawing-marks)
 
-pub lay-kernel-spec : {M : Type 1} → statement M
-lay-kernel-spec = tie.close (tie.spec draw-requires lay-drawing-requires same-length returns)
+pub lay-taps-spec : {M : Type 1} → statement M
+lay-taps-spec = tie.close (tie.spec draw-requires lay-drawing-requires same-length returns)

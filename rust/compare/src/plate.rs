@@ -1,0 +1,78 @@
+//! A plate with its own buffers, for calls made one by one.
+
+use reference::marks::Layout;
+use reference::{Answer, Fill, Lens, Put, State};
+
+use crate::engine::Engine;
+
+pub struct Plate {
+    pub state: State,
+    pub planes: Vec<u64>,
+    pub pixels: Vec<u64>,
+    log: Vec<u64>,
+}
+
+/// What every pixel of a flat layer has.
+#[derive(Clone, Copy, Debug)]
+pub struct Flat {
+    pub value: u16,
+    pub opacity: u8,
+    pub depth: u32,
+}
+
+impl Plate {
+    pub fn open<E: Engine>(width: usize, height: usize, reach: usize, room: usize) -> Plate {
+        let cells = Layout::of(width, height, reach).all_planes();
+        let mut plate = Plate {
+            state: State::default(),
+            planes: vec![0; cells],
+            pixels: vec![0; width * height],
+            log: vec![0; room],
+        };
+        let answer =
+            E::open(width, height, reach, &mut plate.planes, &mut plate.pixels, &mut plate.log);
+        assert_eq!(answer.number, 0);
+        plate.state = answer.state;
+        plate
+    }
+
+    pub fn put<E: Engine>(&mut self, put: Put) -> Answer {
+        let Plate { state, planes, pixels, log } = self;
+        let answer = E::put(*state, put, planes, pixels, log);
+        *state = answer.state;
+        answer
+    }
+
+    pub fn undo<E: Engine>(&mut self) -> Answer {
+        let Plate { state, planes, pixels, log } = self;
+        let answer = E::undo(*state, planes, pixels, log);
+        *state = answer.state;
+        answer
+    }
+
+    /// A fill with a flat layer.
+    pub fn fill<E: Engine>(&mut self, lens: Lens, shape: u8, flat: Flat) -> Answer {
+        let Plate { state, planes, pixels, log } = self;
+        let cells = pixels.len();
+        let fill = Fill {
+            lens,
+            shape,
+            values: &vec![flat.value; cells],
+            opacities: &vec![flat.opacity; cells],
+            depths: &vec![flat.depth; cells],
+        };
+        let answer = E::fill(*state, &fill, planes, pixels, log);
+        *state = answer.state;
+        answer
+    }
+
+    /// The two pictures, values and mattes.
+    pub fn show<E: Engine>(&self) -> (Vec<u16>, Vec<u8>) {
+        let mut scratch = vec![0; self.planes.len() / 14 * 3];
+        let mut values = vec![0; self.pixels.len()];
+        let mut mattes = vec![0; self.pixels.len()];
+        let answer = E::show(self.state, &self.planes, &mut scratch, &mut values, &mut mattes);
+        assert_eq!(answer.number, 0);
+        (values, mattes)
+    }
+}
