@@ -24,8 +24,8 @@
  *     marks       8        13        20          12           16           16
  *
  * Every kernel adds up to the whole exactly: what rounding the share of a tap down loses
- * goes to its centre. So a flat layer stays flat to the code value, but for a border as
- * wide as its kernel reaches.
+ * goes to its centre. So a flat layer keeps its value and its opacity to the code value;
+ * only nearer to the border than its kernel reaches does the matte fall off.
  *
  * Answers: number 0 is accepted. Otherwise the lowest number that applies:
  *

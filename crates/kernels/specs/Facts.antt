@@ -3,10 +3,11 @@ use mathlib.Core.Path.{_≡_}
 use mathlib.Core.List.{List, [], _∷_}
 use Prim.Native.Nat.{ℕ, zero, suc, _+_, _*_, _-_, _^_, _%_, _≤_, _<_}
 use lib.Dec.{ltb}
+use lib.ListN.{length}
 use Rattle.kernels.specs.Fixed.{unit, planesEach, margin}
 use Rattle.kernels.specs.Choice.{pick, within, same, strip}
 use Rattle.kernels.specs.Sum.{dist, Plane, down, slope, summed, finish}
-use Rattle.kernels.specs.Shape.{Shape, reachOf}
+use Rattle.kernels.specs.Shape.{Shape, countOf, reachOf}
 use Rattle.kernels.specs.Tap.{boxTap, octagonTap, Taps, squareSum, weighted, weight}
 use Rattle.kernels.specs.Mark.{Mark, Run, runRow, slopePlane, runMarks, boxMarks, scaled, marks, planesOf}
 
@@ -88,6 +89,13 @@ ShapesWhole = (s : Shape) (r : ℕ) → squareSum (weight s r) (reachOf s r) ≡
 -- and for an octagon of any t
 abbrev pub OctagonWhole : Type 0
 OctagonWhole = (r t : ℕ) → squareSum (weighted (octagonTap r t) (squareSum (octagonTap r t) r)) r ≡ unit
+
+-- a kernel's marks are as many as the table says, with the centre's: "a kernel has 8 to 20 marks"
+abbrev pub CountFact : Type 0
+CountFact = (s : Shape) (r X Y : ℕ) → length (marks s r X Y) ≡ countOf s
+
+abbrev pub CountsFew : Type 0
+CountsFew = (s : Shape) → (8 ≤ countOf s) × (countOf s ≤ 20)
 
 -- what holds of each mark of a list
 unfoldable pub Each : (Mark → Type 0) → List Mark → Type 0

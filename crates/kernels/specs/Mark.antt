@@ -122,11 +122,12 @@ unfoldable pub scaled : ℕ → List Mark → List Mark
 scaled c [] = []
 scaled c (m ∷ ms) = mark (m .plane) (m .column) (m .row) (c * m .coefficient) ∷ scaled c ms
 
--- the marks of a kernel, for opacity 1: "A mark is worth its sign or factor times a × s", and the remainder is "laid as four more
--- marks in slope 0", a box of radius 0 at the centre
+-- "four more marks in slope 0": those of a box of radius 0 at the centre
 unfoldable pub centreMarks : ℕ → ℕ → List Mark
 centreMarks X Y = boxMarks level 1 0 X Y
 
+-- the marks of a kernel, for opacity 1: "A mark is worth its sign or factor times a × s", and the centre's four so with the part
+-- lost by rounding
 unfoldable pub marks : Shape → ℕ → ℕ → ℕ → List Mark
 marks s r X Y = scaled (share s r) (tapMarks s r X Y) ++ scaled (rest s r) (centreMarks X Y)
 

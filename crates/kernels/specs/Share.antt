@@ -4,9 +4,16 @@ use Prim.Native.Nat.{ℕ, zero, suc, _+_, _*_, _/_, _%_, _^_}
 use lib.ListN.{getD}
 use Rattle.kernels.specs.Fixed.{radii, tableRows}
 use Rattle.kernels.specs.Choice.{within}
-use Rattle.kernels.specs.Shape.{Shape, ShapeRead, Known, Unknown, numberOf, shapeOf}
-use Rattle.kernels.specs.Tap.{shareUpTo, restUpTo}
+use Rattle.kernels.specs.Shape.{Shape, ShapeRead, Known, Unknown, numberOf, shapeOf, topOf}
+use Rattle.kernels.specs.Tap.{share, rest}
 pub use Rattle.kernels.specs.declared.share.Share.{Share}
+
+-- "0 above the top"
+unfoldable pub shareUpTo : Shape → ℕ → ℕ
+shareUpTo s r = within r (topOf s) (share s r)
+
+unfoldable pub restUpTo : Shape → ℕ → ℕ
+restUpTo s r = within r (topOf s) (rest s r)
 
 -- what a pixel of opacity 1 adds for each tap, and at the centre besides
 abbrev pub shareFrom : ℕ → ℕ → Share

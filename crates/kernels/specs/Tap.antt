@@ -3,7 +3,7 @@ use Prim.Native.Nat.{ℕ, zero, suc, _+_, _*_, _-_, _/_, min}
 use Rattle.kernels.specs.Fixed.{unit}
 use Rattle.kernels.specs.Choice.{within, same}
 use Rattle.kernels.specs.Sum.{Row, sum, dist}
-use Rattle.kernels.specs.Shape.{Shape, Box, Tent, Triple, Diamond, Hexagon, Octagon, topOf, reachOf}
+use Rattle.kernels.specs.Shape.{Shape, Box, Tent, Triple, Diamond, Hexagon, Octagon, reachOf}
 
 -- BOXES ON ONE AXIS
 -- a row moved s cells on, 0 before its start
@@ -77,13 +77,6 @@ share s r = shareFor (area s r)
 
 abbrev pub rest : Shape → ℕ → ℕ
 rest s r = restFor (area s r)
-
--- "0 above the top"
-unfoldable pub shareUpTo : Shape → ℕ → ℕ
-shareUpTo s r = within r (topOf s) (share s r)
-
-unfoldable pub restUpTo : Shape → ℕ → ℕ
-restUpTo s r = within r (topOf s) (rest s r)
 
 -- WEIGHTS
 -- what a pixel of opacity 1 adds to the matte sum of a cell, by a kernel with taps f of area A: "a × s × tap", and "The part lost

@@ -11,5 +11,6 @@ pub mod Table
 pub mod Plain
 pub mod Notebook
 pub mod Lists
+pub mod Counts
 pub mod Flat
 pub mod code

@@ -10,8 +10,9 @@ use crate::refusal::Refusal;
 /// A kernel of radius r covers r pixels to each side, a tent 2 r, a triple 3 r. That must
 /// be within the plate's reach. The greatest radius is 64, of a tent 8, of a triple 3.
 ///
-/// Every kernel adds up to the whole exactly, so a flat layer stays flat to the code value,
-/// but for a border as wide as its kernel covers to a side.
+/// Every kernel adds up to the whole exactly, so a flat layer keeps its value and its
+/// opacity to the code value; only nearer to the border than its kernel covers does the
+/// matte fall off.
 #[derive(Clone, Copy, Debug, PartialEq, Eq, Hash)]
 #[repr(u8)]
 pub enum Shape {

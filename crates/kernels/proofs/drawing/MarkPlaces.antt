@@ -6,10 +6,10 @@ use native.Mathlib.Omega.{arith}
 use native.Mathlib.Nat.{mul-le-mul-right}
 use lib.ListN.{length, length-append}
 use Rattle.kernels.specs.Fixed.{centreCount, planesEach, level, secondBox, thirdBox, margin}
-use Rattle.kernels.specs.Shape.{Shape, Box, Tent, Triple, Diamond, Hexagon, Octagon, reachOf, tapCount, countOf}
+use Rattle.kernels.specs.Shape.{Shape, Box, Tent, Triple, Diamond, Hexagon, Octagon, reachOf, tapCount}
 use Rattle.kernels.specs.Tap.{half, share, rest}
 use Rattle.kernels.specs.Mark.{Mark, mark, minus, sign, choose, Run, runRow, lineMarks, flipped, outlineMarks, marksTo, boxGrid, boxMarks, twoRuns, diamondMarks, hexagonMarks, octagonMarks, tapMarks, scaled, centreMarks, marks}
-use Rattle.kernels.specs.Facts.{Inside, Each, Near, NearFact}
+use Rattle.kernels.specs.Facts.{Inside, CountFact, Each, Near, NearFact}
 use Rattle.kernels.proofs.marking.MarkLists.{each-append, each-one, each-to}
 use Rattle.kernels.proofs.marking.Kernel.{Walks, diamond-walks, hexagon-walks, octagon-walks}
 use Rattle.kernels.specs.code.Drawing.{moved}
@@ -33,7 +33,7 @@ centre-marks-count : (X Y : ℕ) → length (centreMarks X Y) ≡ centreCount
 unfolding centreMarks boxMarks boxGrid marksTo
 centre-marks-count X Y = refl
 
-pub marks-count : (s : Shape) (r X Y : ℕ) → length (marks s r X Y) ≡ countOf s
+pub marks-count : CountFact
 unfolding marks
 marks-count s r X Y =
     length-append (scaled (share s r) (tapMarks s r X Y)) (scaled (rest s r) (centreMarks X Y))

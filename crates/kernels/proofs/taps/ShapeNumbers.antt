@@ -6,8 +6,9 @@ use lib.Dec.{lit≤}
 use lib.ListN.{List·getD-eq-default}
 use borrow.Author.Tests.{lt-ltb, le-ltb}
 use Rattle.kernels.specs.Fixed.{radii, shapeCount, accepted, shapeRefused}
+use Rattle.kernels.specs.Facts.{CountsFew}
 use Rattle.kernels.specs.Told.{Told, told}
-use Rattle.kernels.specs.Shape.{Shape, Box, Tent, Triple, Diamond, Hexagon, Octagon, ShapeRead, Known, Unknown, numberOf, boxesOf, topOf, countOf, shapes, shapeOf, shapeTold, shapeFor}
+use Rattle.kernels.specs.Shape.{Shape, Box, Tent, Triple, Diamond, Hexagon, Octagon, ShapeRead, Known, Unknown, numberOf, boxesOf, topOf, shapes, shapeOf, shapeTold, shapeFor}
 use Rattle.kernels.proofs.numbers.Choices.{by-lt}
 
 pub number-le : (s : Shape) → numberOf s ≤ shapeCount - 1
@@ -43,7 +44,7 @@ top-small Hexagon = lit≤ tt
 top-small Octagon = lit≤ tt
 
 -- "a kernel has 8 to 20 marks"
-pub count-few : (s : Shape) → (8 ≤ countOf s) × (countOf s ≤ 20)
+pub count-few : CountsFew
 count-few Box = (lit≤ tt, lit≤ tt)
 count-few Tent = (lit≤ tt, lit≤ tt)
 count-few Triple = (lit≤ tt, lit≤ tt)

@@ -10,8 +10,8 @@ use lib.ListN.{length, getD}
 use Rattle.kernels.specs.Fixed.{unit, radii, tableRows}
 use Rattle.kernels.specs.Choice.{within}
 use Rattle.kernels.specs.Shape.{Shape, ShapeRead, Known, Unknown, numberOf, shapeOf, topOf}
-use Rattle.kernels.specs.Tap.{shareFor, restFor, share, rest, shareUpTo, restUpTo}
-use Rattle.kernels.specs.Share.{Share, shareFrom, shareParts, tableRow, shareIn, partsOf, rowAt, listFrom, shareTable, tableShare}
+use Rattle.kernels.specs.Tap.{shareFor, restFor, share, rest}
+use Rattle.kernels.specs.Share.{Share, shareUpTo, restUpTo, shareFrom, shareParts, tableRow, shareIn, partsOf, rowAt, listFrom, shareTable, tableShare}
 use Rattle.kernels.proofs.numbers.Choices.{by-lt, within-yes, within-no}
 use Rattle.kernels.proofs.taps.Areas.{countedArea, area-counted}
 use Rattle.kernels.proofs.taps.ShapeNumbers.{number-le, number-back, top-small}

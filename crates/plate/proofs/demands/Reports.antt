@@ -12,13 +12,13 @@ use Rattle.kernels.specs.declared.lens.Lens.{Lens as LensOf}
 use Rattle.kernels.proofs.taps.ShapeNumbers.{count-few}
 use Rattle.plate.specs.Layout.{Size}
 use Rattle.plate.specs.Word.{Pixel, Entry}
-use Rattle.plate.specs.Refusal.{Refusal, Sizes, Lengths, LogCount, Place, Value, Shape as ShapeRefused, Radius, LogFull, LogEmpty, StoredWord, Lens, Depth, refusalNumber, Outcome, Accepted, Refused, askCheck, openCheck}
-use Rattle.plate.specs.Lent.{Lent, sizedAs, Ask, ask, Inputs, inputs}
-use Rattle.plate.specs.Calls.{openCall}
+use Rattle.plate.specs.Refusal.{Refusal, Sizes, Lengths, LogCount, Place, Value, Shape as ShapeRefused, Radius, LogFull, LogEmpty, StoredWord, Lens, Depth, refusalNumber, Outcome, Accepted, Refused, askCheck}
+use Rattle.plate.specs.Lent.{Ask, ask, Inputs, inputs}
 use Rattle.plate.specs.Change.{askedPlace, askedPixel, knownShape}
 use Rattle.plate.specs.Plain.{pixelAt}
 use Rattle.plate.specs.Notebook.{Book, bookOf, Report, plain, bookPutBy, bookPut, bookUndoOf, bookUndo, bookFillBy, bookFill, bookShowBy, bookShow}
-use Rattle.plate.specs.Lists.{Byte, codes, Call, putIt, undoIt, fillIt, showIt, leftBy, plateStep, bookStep, plateReports, bookReports}
+use Rattle.plate.specs.Lists.{Byte, codes, Call, putIt, undoIt, fillIt, showIt, plateStep, bookStep, bookReports}
+use Rattle.plate.specs.Counts.{Few, CountOf, Counted, ListsCounted}
 use Rattle.plate.proofs.demands.Demand.{demand-3}
 use Rattle.plate.proofs.demands.Mirror.{Mirrored, mirror, put-agrees, undo-agrees}
 use Rattle.plate.specs.Kernel.{markCount}
@@ -84,27 +84,8 @@ module _ (z : Size) (room : ℕ) (planes : List ℕ) (grid : List Pixel) where
   undo-reports e pile kept = undo-agrees z room planes grid (e ∷ pile) kept .same-report
 
 -- 16 TO 40
--- a put or an undo: 16 to 40 marks if accepted, none if refused
-pub record Few (r : Report) : Type 0 where
-  pub if-accepted : r .number ≡ 0 → (16 ≤ r .marks) × (r .marks ≤ 40)
-  pub if-refused : (r .number ≡ 0 → ⊥) → r .marks ≡ 0
-
 few : (s t : Shape) (r : Report) → Told (countOf s + countOf t) r → Few r
 few s t r h = record { if-accepted = λ e. rw (h .if-accepted e) (counts-few s t); if-refused = h .if-refused }
-
-unfoldable pub CountOf : Call → Report → Type 0
-CountOf (putIt x y v a s r) t = Few t
-CountOf undoIt t = Few t
--- "Fill and show report 0."
-CountOf (fillIt o s vs bs zs) t = t .marks ≡ 0
-CountOf (showIt v) t = t .marks ≡ 0
-
--- each call of a list has its report, with such a count
-unfoldable pub Counted : List Call → List Report → Type 0
-Counted [] [] = Unit
-Counted [] (r ∷ rs) = ⊥
-Counted (c ∷ cs) [] = ⊥
-Counted (c ∷ cs) (r ∷ rs) = CountOf c r × Counted cs rs
 
 undo-few : (z : Size) (room : ℕ) (grid : List Pixel) (pile : List Entry) → Few (bookUndoOf z room grid pile .report)
 unfolding bookUndoOf
@@ -135,7 +116,6 @@ unfolding Counted bookReports
 book-counted b [] = tt
 book-counted b (c ∷ cs) = (step-counted b c, book-counted (bookStep b c .book) cs)
 
--- in every list after an accepted open, an accepted put or undo reports 16 to 40 marks and every other call none
-pub plate-counted : (z : Size) (l : Lent) (calls : List Call) → openCheck z (sizedAs l) ≡ Accepted
-    → Counted calls (plateReports (leftBy (openCall z l)) calls)
+-- and so of the plate's reports
+pub plate-counted : ListsCounted
 plate-counted z l calls e = rw (demand-3 z l calls e .0) (book-counted _ calls)

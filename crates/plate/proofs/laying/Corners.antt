@@ -23,7 +23,7 @@ use Rattle.plate.specs.Marks.{inBoth, pixelMarks, cellOf, layOne, layAll
 use Rattle.plate.proofs.numbers.Extents.{place-within}
 use Rattle.plate.proofs.laying.Cells.{reach-under}
 use Rattle.plate.proofs.laying.LaidCells.{lay-one-mod}
-use Rattle.plate.specs.code.Laying.{Worth, times, worthOf, Ground, layWorth, layDrawn, FewBoxes, AllIn, Roomy, Placed, PixelReady, ownMarks, groundOf, spare, cornerOf, kernelAt, marksAt}
+use Rattle.plate.specs.code.Laying.{Worth, times, worthOf, Ground, layWorth, layDrawn, FewBoxes, AllIn, Roomy, Placed, PixelReady, ownMarks, groundOf, spare, cornerOf, marksAt}
 use Rattle.plate.specs.code.Bounds.{Frame, frameOf}
 use Rattle.plate.proofs.laying.Worths.{times-number}
 use Rattle.kernels.specs.Fixed.{planesEach, level, margin}
@@ -99,6 +99,12 @@ around z x y s r h k =
     rw (column-at z x y h, row-at z x y h, column, row)
     (tap-marks-moved (x + (z .reach - n)) (y + (z .reach - n)) s r (n + margin) (n + margin) (omega arith) (omega arith))
 
+-- the marks of a kernel's taps around (x, y), laid with a worth
+abbrev kernelAt : Frame → ℕ → ℕ → Shape → ℕ → Worth → List Mark
+kernelAt f x y s r w =
+    let i = y * f .size .width + x in
+    inBoth (w .light) (w .matte) (tapMarks s r (columnOf (f .size) i) (rowOf (f .size) i))
+
 module _ (f : Frame) (x y : ℕ) (placed : Placed f x y) where
   -- the corner of a drawing is a cell of a plane
   pub corner-in : (m : ℕ) → cornerOf f x y m < f .padded
@@ -111,7 +117,7 @@ module _ (f : Frame) (x y : ℕ) (placed : Placed f x y) where
 
   module _ (s : Shape) (r : ℕ) (reaches : reachOf s r ≤ f .size .reach) where
     -- a kernel's marks, laid from its corner, are those around the place
-    pub kernel-laid : (w : Worth) (cells : List ℕ)
+    kernel-laid : (w : Worth) (cells : List ℕ)
         → layDrawn (groundOf f (cornerOf f x y (reachOf s r))) w cells (ownMarks s r) ≡ layAll (f .size) cells (kernelAt f x y s r w)
     kernel-laid w cells =
         rw (around (f .size) x y s r (placed .column-in) reaches, placed .framed)
@@ -143,7 +149,7 @@ unfolding layAll
 lay-append z cells [] ns = refl
 lay-append z cells (m ∷ ms) ns = lay-append z (layOne cells (cellOf z m) (m .coefficient)) ms ns
 
--- the marks of a kernel's taps around (x, y) laid with one worth, and those of its centre, a box of radius 0, with another
+-- the taps with one worth, and the centre, a box of radius 0, with another
 abbrev partsAt : Frame → ℕ → ℕ → Shape → ℕ → Worth → Worth → List Mark
 partsAt f x y s r taps centre = kernelAt f x y s r taps ++ kernelAt f x y Box 0 centre
 

@@ -16,9 +16,8 @@ use Rattle.kernels.specs.declared.shape.Shape.{Shape}
 use Rattle.kernels.specs.Shape.{reachOf, topUnder}
 use Rattle.kernels.specs.Mark.{Mark, mark, sign, choose, marksTo, tapMarks}
 use Rattle.plate.specs.Fixed.{planesInAll}
-use Rattle.plate.specs.Layout.{columnOf, rowOf}
 use Rattle.plate.specs.Word.{Pixel}
-use Rattle.plate.specs.Marks.{inBoth, pixelMarks, layOne}
+use Rattle.plate.specs.Marks.{pixelMarks, layOne}
 use Rattle.plate.specs.code.Bounds.{Frame, frameOf}
 pub use Rattle.plate.specs.declared.lay.Worth.{Worth}
 pub use Rattle.plate.specs.declared.lay.Ground.{Ground}
@@ -107,12 +106,6 @@ cornerOf f x y m = (y + spare f m) * f .wide + (x + spare f m)
 -- the marks of a kernel's taps, counted from the corner of its drawing
 abbrev pub ownMarks : Shape → ℕ → List Mark
 ownMarks s r = tapMarks s r (reachOf s r + margin) (reachOf s r + margin)
-
--- and around (x, y), laid with a worth
-abbrev pub kernelAt : Frame → ℕ → ℕ → Shape → ℕ → Worth → List Mark
-kernelAt f x y s r w =
-    let i = y * f .size .width + x in
-    inBoth (w .light) (w .matte) (tapMarks s r (columnOf (f .size) i) (rowOf (f .size) i))
 
 -- PIXELS
 -- a pixel at (x, y) whose radius keeps to the plate's reach, n cells in all planes, and its kernel's share at hand
