@@ -1,5 +1,6 @@
 // The sums that finish a picture's planes, in one pass over its rows. What a sum hands from row to row it keeps in the lent
-// scratch: a row of cells, or one cell for each line of a slope.
+// scratch, one cell for each column or for each line of a slope, and reads and raises it there: no sum has a copy of a row or a
+// column for itself.
 ghost use mathlib.Core.Path.{_≡_};
 ghost use Prim.Native.Nat.{_+_, _%_, _^_, _<_};
 ghost use lib.ListN.{length};
