@@ -58,7 +58,7 @@ fn no_function_of_a_show_has_an_array() {
         .expect("standard error can be written");
 }
 
-/// In the function that raises a cell by a sum, seven calls below show.
+/// In the function that raises a cell by a sum, six calls below show.
 #[test]
 fn an_array_deep_below_show_is_found_and_named() {
     let engine = engine();
