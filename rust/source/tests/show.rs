@@ -48,7 +48,7 @@ fn no_function_of_a_show_has_an_array() {
     let program = Program::read(&engine(), LAST).expect("crates that can be read");
     let walk = Walk::from(&program, &SHOWS).expect("show is there");
     let told: Vec<String> = walk.faults.iter().map(Fault::to_string).collect();
-    assert!(told.is_empty(), "show runs through arrays:\n{}", told.join("\n"));
+    assert!(told.is_empty(), "below show:\n{}", told.join("\n"));
 
     let paths: Vec<String> = walk.functions().map(|item| program.path(item)).collect();
     let crates: BTreeSet<&str> =
