@@ -104,7 +104,7 @@ impl<'a> Lexer<'a> {
             self.take_quoted(Kind::Quoted, 1, '"')
         } else if rest.starts_with("b'") {
             self.take_quoted(Kind::Byte, 2, '\'')
-        } else if first == '\'' {
+        } else if first == '\'' && name_length(&rest[1..]) > 0 {
             self.take(Kind::Label, 1 + name_length(&rest[1..]));
             Ok(())
         } else if first.is_ascii_digit() {
@@ -139,7 +139,7 @@ impl<'a> Lexer<'a> {
             self.take(Kind::Sign, long.len());
             return Ok(());
         }
-        if !sign.is_ascii_punctuation() {
+        if !sign.is_ascii_punctuation() || sign == '\'' {
             return Err(self.fault(&format!("an unknown sign {sign}")));
         }
         self.take(Kind::Sign, 1);

@@ -75,7 +75,7 @@ fn no_arrays_in_a_body() {
         "row[n] = row[n - 1] + u64::MAX;",
         "start(&row[n..m]); // [0; 4]\n",
         "'rows: for i in 0..n { if row.len() < i { break 'rows; } }",
-        "for i in 0..=row[n] { let byte = b'['; let quote = b'\''; }",
+        "for i in 0..=row[n] { let byte = b'['; let quote = b'\\''; }",
         "let first = 0.5; let second = 1..2; let pair = p.0[n];",
     ] {
         let faults = in_first(&format!("pub fn start(row: &[u64], n: usize) {{ {body} }}"));
@@ -235,6 +235,7 @@ fn texts_that_cannot_be_read() {
         ("first/src/lib.rt: line 1: a name expected, not 3", "const 3: u64 = 0;"),
         ("first/src/lib.rt: line 1: a comment of a form that is not read", "/* fn start() */"),
         ("first/src/lib.rt: line 1: an unknown sign λ", "fn start() { λ }"),
+        ("first/src/lib.rt: line 1: an unknown sign '", "fn start() { b''' }"),
         ("first/src/lib.rt: line 1: a clause without an end", "fn start() requires { {} "),
         ("first/src/lib.rt: line 1: a quotation without an end", "fn start() { b\"\\\" }"),
         ("first/src/lib.rt: two items have the name a", "fn a() {} mod a {}"),
