@@ -53,6 +53,31 @@ pub struct Handmade;
 /// The reference's own reading of what each call leaves: an engine too, only slow.
 pub struct Stored;
 
+/// The same tests for the handmade and the proved engine, in a module for each.
+#[macro_export]
+macro_rules! for_each_engine {
+    ($($name:ident: $test:ident($($given:expr),*),)*) => {
+        mod handmade {
+            use super::*;
+
+            $(#[test]
+            fn $name() {
+                $test::<$crate::engine::Handmade>($($given),*);
+            })*
+        }
+
+        #[cfg(feature = "proved")]
+        mod proved {
+            use super::*;
+
+            $(#[test]
+            fn $name() {
+                $test::<$crate::engine::Proved>($($given),*);
+            })*
+        }
+    };
+}
+
 /// Makes an engine of a module that mirrors the C interface.
 macro_rules! mirror {
     ($engine:ident, $name:literal, $module:ident) => {

@@ -1,10 +1,10 @@
 //! A flat layer stays flat to the code value: a cell around which the whole square of the
 //! kernel lies on the plate shows the value and the opacity that every pixel has.
 
-use compare::engine::{Engine, Handmade, Stored};
+use compare::engine::{Engine, Stored};
 use compare::plate::{Flat, Plate};
-use compare::say;
 use compare::step::{PAPER_LENS, depth_of};
+use compare::{for_each_engine, say};
 use reference::Put;
 use reference::kernel::{Kernel, SHAPES, Shape, WHOLE};
 use reference::marks::{Layout, PLANES, finished};
@@ -149,44 +149,10 @@ fn opaque_tent<E: Engine>() {
     assert_eq!((values[centre], mattes[centre]), (1_000, 255), "{}", E::NAME);
 }
 
-mod handmade {
-    use super::*;
-
-    #[test]
-    fn fill() {
-        by_fill::<Handmade>();
-    }
-
-    #[test]
-    fn puts() {
-        by_puts::<Handmade>();
-    }
-
-    #[test]
-    fn tent() {
-        opaque_tent::<Handmade>();
-    }
-}
-
-#[cfg(feature = "proved")]
-mod proved {
-    use super::*;
-    use compare::engine::Proved;
-
-    #[test]
-    fn fill() {
-        by_fill::<Proved>();
-    }
-
-    #[test]
-    fn puts() {
-        by_puts::<Proved>();
-    }
-
-    #[test]
-    fn tent() {
-        opaque_tent::<Proved>();
-    }
+for_each_engine! {
+    fill: by_fill(),
+    puts: by_puts(),
+    tent: opaque_tent(),
 }
 
 /// The reference's reading of the calls is held to the same like any engine.

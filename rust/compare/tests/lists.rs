@@ -1,10 +1,10 @@
 //! Random lists of calls on many plates, against the notebook.
 
-use compare::engine::{Engine, Handmade, Stored};
+use compare::engine::{Engine, Stored};
 use compare::list::{Tally, run};
 use compare::random::Random;
-use compare::say;
 use compare::step::{Inputs, Maker, PAPER_LENS, Step};
+use compare::{for_each_engine, say};
 use reference::{Put, State};
 
 /// Widths and heights: single cells, thin plates, squares.
@@ -107,54 +107,11 @@ fn is_lawful(put: Put, sizes: State) -> bool {
     notebook.put(put).number == 0
 }
 
-mod handmade {
-    use super::*;
-
-    #[test]
-    fn random() {
-        random_lists::<Handmade>(1, 4);
-    }
-
-    #[test]
-    fn long() {
-        long_plates::<Handmade>();
-    }
-
-    #[test]
-    fn greatest() {
-        greatest_plate::<Handmade>();
-    }
-
-    #[test]
-    fn log() {
-        longest_log::<Handmade>();
-    }
-}
-
-#[cfg(feature = "proved")]
-mod proved {
-    use super::*;
-    use compare::engine::Proved;
-
-    #[test]
-    fn random() {
-        random_lists::<Proved>(1, 4);
-    }
-
-    #[test]
-    fn long() {
-        long_plates::<Proved>();
-    }
-
-    #[test]
-    fn greatest() {
-        greatest_plate::<Proved>();
-    }
-
-    #[test]
-    fn log() {
-        longest_log::<Proved>();
-    }
+for_each_engine! {
+    random: random_lists(1, 4),
+    long: long_plates(),
+    greatest: greatest_plate(),
+    log: longest_log(),
 }
 
 /// The reference's reading of the calls is held against the notebook like any engine.

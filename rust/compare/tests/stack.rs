@@ -14,6 +14,9 @@ const STACK: usize = 16 * 1024;
 const SIDE_TOP: usize = 4_096;
 const REACH: usize = 64;
 
+/// A row of sums on the widest plate, and a column on the highest, would not fit.
+const _: () = assert!(STACK < (SIDE_TOP + 2 * REACH + 6) * size_of::<u64>());
+
 fn filled(width: usize, height: usize) -> Plate {
     let mut plate = Plate::open::<Proved>(width, height, REACH, 0);
     let flat = Flat { value: 1_000, opacity: 255, depth: depth_of(REACH) };
@@ -40,8 +43,6 @@ fn show_in_a_small_thread(plate: &Plate) -> (Answer, Vec<u16>, Vec<u8>) {
 #[test]
 fn a_show_in_a_small_thread() {
     for (width, height) in [(SIDE_TOP, 1), (1, SIDE_TOP)] {
-        let padded_side = SIDE_TOP + 2 * REACH + 6;
-        assert!(STACK < padded_side * size_of::<u64>());
         let plate = filled(width, height);
         let (answer, values, mattes) = show_in_a_small_thread(&plate);
         assert_eq!(answer.number, 0);

@@ -45,7 +45,10 @@ impl fmt::Display for Fault {
             What::NotFound(name) => write!(f, "{item} names {name}, not found ({place})")?,
             What::Foreign => write!(f, "{item} has no text ({place})")?,
         }
-        write!(f, ", by {}", through.join(", "))
+        if !through.is_empty() {
+            write!(f, ", by {}", through.join(", "))?;
+        }
+        Ok(())
     }
 }
 

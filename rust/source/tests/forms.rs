@@ -128,9 +128,18 @@ fn no_arrays_in_signatures_types_and_constants() {
 
 const DEEP: &str = "pub fn deep() { let row = [0; 4]; }";
 
+/// Below `start` of each text lies the function of `DEEP`, which stands in a file of its own.
+fn all_reach(item: &str, file: &str, texts: &[&str]) {
+    for text in texts {
+        let faults = faults(&[("first/src/lib.rt", text), (file, DEEP)]);
+        let faults = faults.unwrap_or_else(|fault| panic!("{text}: {fault}"));
+        assert_eq!(only(&faults), (item, &What::Array), "{text}");
+    }
+}
+
 #[test]
 fn names_of_other_modules() {
-    for text in [
+    let texts = [
         "mod a; fn start() { a::deep(); }",
         "mod a; fn start() { crate::a::deep(); }",
         "mod a; fn start() { self::a::deep(); }",
@@ -143,26 +152,20 @@ fn names_of_other_modules() {
         "mod a; mod b { pub use super::a::deep; } fn start() { b::deep(); }",
         "mod a; mod b { pub use crate::a::*; } use b::*; fn start() { deep(); }",
         "mod a; mod b { pub fn c() { super::a::deep(); } } fn start() { b::c(); }",
-    ] {
-        let files = [("first/src/lib.rt", text), ("first/src/a.rt", DEEP)];
-        let faults = faults(&files).unwrap_or_else(|fault| panic!("{text}: {fault}"));
-        assert_eq!(only(&faults), ("first::a::deep", &What::Array), "{text}");
-    }
+    ];
+    all_reach("first::a::deep", "first/src/a.rt", &texts);
 }
 
 #[test]
 fn names_of_other_crates() {
-    for text in [
+    let texts = [
         "fn start() { second::deep(); }",
         "use second; fn start() { second::deep(); }",
         "use second as other; fn start() { other::deep(); }",
         "pub use second::deep; fn start() { crate::deep(); }",
         "mod a { use second::deep; pub fn b() { deep(); } } fn start() { a::b(); }",
-    ] {
-        let files = [("first/src/lib.rt", text), ("second/src/lib.rt", DEEP)];
-        let faults = faults(&files).unwrap_or_else(|fault| panic!("{text}: {fault}"));
-        assert_eq!(only(&faults), ("second::deep", &What::Array), "{text}");
-    }
+    ];
+    all_reach("second::deep", "second/src/lib.rt", &texts);
     let below = [
         ("first/src/lib.rt", "fn start() { std::num::below::deep(); }"),
         ("std/src/lib.rt", "pub mod num;"),
@@ -213,6 +216,16 @@ fn names_that_are_not_found() {
         let faults = faults(&files).unwrap_or_else(|fault| panic!("{text}: {fault}"));
         assert_eq!(only(&faults), ("first::start", &What::NotFound(name.into())), "{text}");
     }
+}
+
+#[test]
+fn a_fault_is_told_with_the_way_to_it() {
+    let told = |text: &str| in_first(text).iter().map(Fault::to_string).collect::<Vec<_>>();
+    assert_eq!(told("fn start() { [0]; }"), ["first::start has an array (first/src/lib.rt:1)"]);
+    assert_eq!(
+        told("fn start() { a(); }\nfn a() { b(); }\nfn b() { c(); }"),
+        ["first::b names c, not found (first/src/lib.rt:3), by first::start, first::a"]
+    );
 }
 
 #[test]
