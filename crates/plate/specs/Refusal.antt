@@ -17,7 +17,7 @@ use Rattle.plate.specs.Layout.{Size, padded, places}
 use Rattle.plate.specs.Lent.{State, Sized, Ask, Inputs}
 pub use Rattle.plate.specs.declared.state.Answer.{Answer}
 pub use Rattle.plate.specs.declared.state.Refusal.{Refusal}
-pub use Rattle.plate.specs.declared.state.Refusal.the-variants.{Sizes, Lengths, LogCount, Place, Value, Shape, Radius, LogFull, LogEmpty, StoredWord, Lens, Depth}
+pub use Rattle.plate.specs.declared.state.Refusal.the-variants.{Sizes, Lengths, LogCount, Place, Value, Shape, Radius, LogFull, LogEmpty, StoredWord, Lens, Depth, DepthInside}
 pub use Rattle.plate.specs.declared.state.Outcome.{Outcome}
 pub use Rattle.plate.specs.declared.state.Outcome.the-variants.{Accepted, Refused}
 
@@ -36,6 +36,7 @@ refusalNumber LogEmpty = 9
 refusalNumber StoredWord = 10
 refusalNumber Lens = lensRefused
 refusalNumber Depth = depthRefused
+refusalNumber DepthInside = 17
 
 abbrev pub outcomeNumber : Outcome → ℕ
 outcomeNumber Accepted = 0
@@ -107,6 +108,10 @@ anyOf test (n ∷ ns) = pick (test n) true (anyOf test ns)
 abbrev pub anyAbove : ℕ → List ℕ → Bool
 anyAbove b ns = anyOf (ltb b) ns
 
+-- above the one bound and not above the other
+unfoldable pub isBetween : ℕ → ℕ → ℕ → Bool
+isBetween low top n = pick (leb n low) false (leb n top)
+
 -- 11: "D, f, S or p outside"
 abbrev pub lensCheck : LensOf → Outcome → Outcome
 lensCheck l next = refuseIf (not (lawfulLens l)) Lens next
@@ -114,6 +119,10 @@ lensCheck l next = refuseIf (not (lawfulLens l)) Lens next
 -- 12: "a depth above 10,000,000"
 abbrev pub depthsCheck : List ℕ → Outcome → Outcome
 depthsCheck depths next = refuseIf (anyAbove depthTop depths) Depth next
+
+-- 17: "a non-zero depth at most f"
+abbrev pub insideCheck : LensOf → List ℕ → Outcome → Outcome
+insideCheck l depths next = refuseIf (anyOf (isBetween 0 (l .focal)) depths) DepthInside next
 
 -- THE CHECKS OF EACH CALL, but for 10, which reads stored words
 -- 4 to 8, with the count and the log's length
@@ -129,11 +138,11 @@ unfoldable pub inputsCheck : Size → ℕ → ℕ → ℕ → Outcome → Outcom
 inputsCheck z values opacities depths next =
     lengthCheck values (places z) (lengthCheck opacities (places z) (lengthCheck depths (places z) next))
 
--- 5, 6, 11 and 12
+-- 5, 6, 11, 12 and 17
 unfoldable pub layerCheck : LensOf → ℕ → Inputs → Outcome
 layerCheck l s f =
     refuseIf (anyAbove valueTop (f .values)) Value
-    (shapeCheck (shapeOf s) (lensCheck l (depthsCheck (f .depths) Accepted)))
+    (shapeCheck (shapeOf s) (lensCheck l (depthsCheck (f .depths) (insideCheck l (f .depths) Accepted))))
 
 -- 2 for scratch, "3 × P", and "the two pictures .. W × H each"
 unfoldable pub viewsCheck : Size → ℕ → ℕ → ℕ → Outcome
@@ -156,7 +165,7 @@ putCheck s a n = plateCheck s n (askCheck (s .size) (s .count) (n .log) a)
 unfoldable pub undoCheck : State → Sized → Outcome
 undoCheck s n = plateCheck s n (emptyCheck (s .count) Accepted)
 
--- fill: 1 2 3, and what its inputs hold: 5 6 11 12
+-- fill: 1 2 3, and what its inputs hold: 5 6 11 12 17
 unfoldable pub fillFirst : State → Inputs → Sized → Outcome → Outcome
 fillFirst s f n next =
     sizesCheck (s .size)

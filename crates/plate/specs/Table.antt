@@ -16,7 +16,7 @@ use Rattle.plate.specs.Fixed.{planesInAll, scratchPlanes, sideTop, place
 use Rattle.plate.specs.Layout.{Size, sizeFrom, padded, places}
 use Rattle.plate.specs.Lent.{State, stateOf, Lent, Sized, sizedAs, Ask, Inputs, Views}
 use Rattle.plate.specs.Word.{shapeIn, radiusIn}
-use Rattle.plate.specs.Refusal.{Refusal, Sizes, Lengths, LogCount, Place, Value, Shape, Radius, LogFull, LogEmpty, StoredWord, Lens, Depth, Outcome, Accepted, Refused, refusalNumber, openCheck}
+use Rattle.plate.specs.Refusal.{Refusal, Sizes, Lengths, LogCount, Place, Value, Shape, Radius, LogFull, LogEmpty, StoredWord, Lens, Depth, DepthInside, Outcome, Accepted, Refused, refusalNumber, openCheck}
 use Rattle.plate.specs.Change.{askedPlace}
 use Rattle.plate.specs.Calls.{Left, refused, Shown, shows, answerOf, openCall, putCall, undoCall, fillCall, showCall}
 
@@ -72,10 +72,10 @@ PlaceOutside z x y = (z .width ≤ x) ⊎ (z .height ≤ y)
 abbrev pub ValueAbove : ℕ → Type 0
 ValueAbove v = valueTop < v
 
--- one of the numbers is above the top: 5 of a fill's values, and 12: "a depth above 10,000,000"
-unfoldable pub SomeAbove : ℕ → List ℕ → Type 0
-SomeAbove top [] = ⊥
-SomeAbove top (n ∷ ns) = (top < n) ⊎ SomeAbove top ns
+-- one of the numbers that a fill is given is such a one: 5 of its values, 12 and 17 of its depths
+unfoldable pub SomeOf : (ℕ → Type 0) → List ℕ → Type 0
+SomeOf such [] = ⊥
+SomeOf such (n ∷ ns) = such n ⊎ SomeOf such ns
 
 -- 6: "shape above 5"
 abbrev pub ShapeAbove : ℕ → Type 0
@@ -120,6 +120,14 @@ LensOutside l =
     ⊎ (focusTop < l .focus)
     ⊎ Outside 1 pitchTop (l .pitch)
 
+-- 12: "a depth above 10,000,000"
+abbrev pub DepthAbove : ℕ → Type 0
+DepthAbove d = depthTop < d
+
+-- 17: "a non-zero depth at most f"
+abbrev pub InsideLens : LensOf → ℕ → Type 0
+InsideLens l d = (d ≢ 0) × (d ≤ l .focal)
+
 -- THE ROWS OF EACH CALL: "a call checks only what it is lent"
 abbrev pub openRows : Size → Lent → List (Row Refusal)
 openRows z l = row Sizes (SizesOutside z) ∷ row Lengths (LentWrong z (sizedAs l)) ∷ []
@@ -157,10 +165,11 @@ fillRows s o shape f l =
     row Sizes (SizesOutside z)
     ∷ row Lengths (LentWrong z (sizedAs l) ⊎ InputsWrong z f)
     ∷ row LogCount (CountAbove s l)
-    ∷ row Value (SomeAbove valueTop (f .values))
+    ∷ row Value (SomeOf ValueAbove (f .values))
     ∷ row Shape (ShapeAbove shape)
     ∷ row Lens (LensOutside o)
-    ∷ row Depth (SomeAbove depthTop (f .depths))
+    ∷ row Depth (SomeOf DepthAbove (f .depths))
+    ∷ row DepthInside (SomeOf (InsideLens o) (f .depths))
     ∷ []
 
 abbrev pub showRows : State → List ℕ → Views → List (Row Refusal)
@@ -175,7 +184,7 @@ pub record Orders : Type 0 where
   pub of-put : (s : State) (a : Ask) (l : Lent) → numbersOf (putRows s a l) ≡ 1 ∷ 2 ∷ 3 ∷ 4 ∷ 5 ∷ 6 ∷ 7 ∷ 8 ∷ 10 ∷ []
   pub of-undo : (s : State) (l : Lent) → numbersOf (undoRows s l) ≡ 1 ∷ 2 ∷ 3 ∷ 9 ∷ 10 ∷ []
   pub of-fill : (s : State) (o : LensOf) (shape : ℕ) (f : Inputs) (l : Lent)
-      → numbersOf (fillRows s o shape f l) ≡ 1 ∷ 2 ∷ 3 ∷ 5 ∷ 6 ∷ 11 ∷ 12 ∷ []
+      → numbersOf (fillRows s o shape f l) ≡ 1 ∷ 2 ∷ 3 ∷ 5 ∷ 6 ∷ 11 ∷ 12 ∷ 17 ∷ []
   pub of-show : (s : State) (planes : List ℕ) (v : Views) → numbersOf (showRows s planes v) ≡ 1 ∷ 2 ∷ []
 
 -- DEMAND 1

@@ -62,7 +62,7 @@ fn layer_of(size: Size, lens: Lens, shape: Shape) -> Layer
     }
 }
 
-// 5, 6, 11 and 12: what a fill checks once its lengths are right.
+// 5, 6, 11, 12 and 17: what a fill checks once its lengths are right.
 fn read_inputs(size: Size, lens: Lens, shape: u8, values: &[u16], depths: &[u32]) -> LayerRead
     requires { ⌜ LawfulSize size × (length (now values) ≡ places size) × (length (now depths) ≡ places size) ⌝ }
     ensures { λ r. ⌜ ((opacities : List ℕ) → r ≡ inputsRead size lens shape (inputs (now (values .entry)) opacities (now (depths .entry)))) ⌝ }
@@ -78,6 +78,9 @@ fn read_inputs(size: Size, lens: Lens, shape: u8, values: &[u16], depths: &[u32]
     }
     if depth_between(depths, size, DEPTH_TOP, u32::MAX) {
         return LayerRead::NoFill(Refusal::Depth);
+    }
+    if depth_between(depths, size, 0, lens.focal) {
+        return LayerRead::NoFill(Refusal::DepthInside);
     }
     LayerRead::ToFill(layer_of(size, lens, known))
 }

@@ -7,8 +7,8 @@ ghost use Prim.Native.Nat.{ℕ, _≤_};
 ghost use lib.ListN.{length, getD};
 ghost use Rattle.kernels.specs.Fixed.{valueTop};
 ghost use Rattle.plate.specs.Layout.{places};
-ghost use Rattle.plate.specs.Refusal.{anyOf, anyAbove};
-ghost use Rattle.plate.specs.code.Filling.{isBetween, numberTop};
+ghost use Rattle.plate.specs.Refusal.{anyOf, anyAbove, isBetween};
+ghost use Rattle.plate.specs.code.Filling.{numberTop};
 
 // 5: whether a value is above its top.
 pub(crate) fn value_above(values: &[u16], size: Size) -> bool

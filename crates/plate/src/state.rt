@@ -11,7 +11,7 @@ pub struct State {
     pub count: usize,
 }
 
-// Why a call is refused: the paper's numbers 1 to 12, in order.
+// Why a call is refused: the paper's numbers 1 to 12, in order, and 17; 13 to 16 are the records'.
 pub enum Refusal {
     Sizes,
     Lengths,
@@ -25,6 +25,7 @@ pub enum Refusal {
     StoredWord,
     Lens,
     Depth,
+    DepthInside,
 }
 
 pub enum Outcome {
@@ -88,6 +89,7 @@ fn refusal_number(why: Refusal) -> u32
         Refusal::StoredWord => 10,
         Refusal::Lens => 11,
         Refusal::Depth => 12,
+        Refusal::DepthInside => 17,
     }
 }
 

@@ -1,4 +1,4 @@
-// Each example of the paper's table of refusals that a plate's calls can give: the numbers 1 to 12, one on a line.
+// Each example of the paper's table of refusals that a plate's calls can give: the numbers 1 to 12 and 17, one on a line.
 use libc::STDOUT_FILENO;
 use plate::Answer;
 use plate::Lens;
@@ -98,7 +98,7 @@ fn undo_refused() {
     print_number(plate::undo::undo(opened.state, &mut planes, &mut pixels, &mut log));
 }
 
-// 11: S = f. 12: a depth of 10,000,001.
+// 11: S = f. 12: a depth of 10,000,001. 17: a depth of f.
 fn fill_refused(focus: u32, depth: u32) {
     let mut planes = [0u64; 1386];
     let mut pixels = [0u64; 3];
@@ -135,4 +135,5 @@ fn main() {
     put_refused(1, 100, 0, 1099511627776);
     fill_refused(500, 20000);
     fill_refused(20000, 10000001);
+    fill_refused(20000, 500);
 }

@@ -1,10 +1,11 @@
 //! What the comparisons in `tests/` stand on: engines behind one trait, buffers between
-//! guard cells, calls made at random, a list of calls held against the notebook, and a plate
-//! for calls made one by one.
+//! guard cells, calls made at random, a list of calls held against the notebook, a plate for
+//! calls made one by one, and a count of the numbers that calls got.
 
 pub mod engine;
 pub mod guard;
 pub mod list;
+pub mod numbers;
 pub mod plate;
 pub mod random;
 pub mod step;

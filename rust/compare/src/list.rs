@@ -10,19 +10,19 @@ use reference::{Answer, State};
 
 use crate::engine::Engine;
 use crate::guard::{Guarded, PlateBuffers, ShowBuffers};
+use crate::numbers::Numbers;
 use crate::random::Random;
 use crate::step::Step;
 
 /// What was tried.
 #[derive(Default)]
 pub struct Tally {
-    pub lists: usize,
+    lists: usize,
     puts: usize,
     undos: usize,
     fills: usize,
     shows: usize,
-    /// By number; 0 counts the accepted calls.
-    numbers: [usize; 13],
+    pub numbers: Numbers,
     cells: usize,
 }
 
@@ -34,7 +34,7 @@ impl Tally {
             Step::Fill(_) => self.fills += 1,
             Step::Show { .. } => self.shows += 1,
         }
-        self.numbers[number as usize] += 1;
+        self.numbers.count(number);
     }
 }
 
@@ -42,13 +42,7 @@ impl fmt::Display for Tally {
     fn fmt(&self, f: &mut fmt::Formatter<'_>) -> fmt::Result {
         let Tally { lists, puts, undos, fills, shows, numbers, cells } = self;
         write!(f, "{lists} lists: {puts} puts, {undos} undos, {fills} fills, {shows} shows; ")?;
-        write!(f, "{} accepted, refused", numbers[0])?;
-        for (number, times) in numbers.iter().enumerate().skip(1) {
-            if *times > 0 {
-                write!(f, " {number}: {times}")?;
-            }
-        }
-        write!(f, "; {cells} plane cells compared")
+        write!(f, "{numbers}; {cells} plane cells compared")
     }
 }
 

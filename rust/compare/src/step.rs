@@ -117,12 +117,13 @@ impl Maker<'_> {
         let values = self.length(cells);
         let opacities = self.length(cells);
         let depths = self.length(cells);
+        let lens = self.lens();
         Inputs {
-            lens: self.lens(),
+            lens,
             shape: self.shape(),
             values: self.values(values),
             opacities: (0..opacities).map(|_| self.opacity()).collect(),
-            depths: self.depths(depths),
+            depths: self.depths(depths, lens),
         }
     }
 
@@ -225,23 +226,32 @@ impl Maker<'_> {
         }
     }
 
-    fn depths(&mut self, length: usize) -> Vec<u32> {
+    /// Depths for a lens, past its f; at times one of infinity, one too far, one inside.
+    fn depths(&mut self, length: usize, lens: Lens) -> Vec<u32> {
         let farthest = FARTHEST as usize;
+        // An f that no lens can have is refused before any depth.
+        let nearest = lens.focal.min(4_000) as usize + 1;
         let (first, last) = self.random.pick(&[
-            (0, farthest),
-            (0, 100),
-            (1, 60_000),
+            (nearest, farthest),
+            (nearest, nearest + 100),
+            (nearest, 60_000),
             (18_000, 23_000),
             (20_000, 20_000),
             (farthest, farthest),
         ]);
         let mut depths: Vec<u32> =
             (0..length).map(|_| self.random.within(first, last) as u32).collect();
-        if length > 0 && self.random.once_in(4) {
+        if length == 0 {
+            return depths;
+        }
+        if self.random.once_in(4) {
             depths[self.random.below(length)] = 0;
         }
-        if length > 0 && self.random.once_in(FAULT) {
+        if self.random.once_in(FAULT) {
             depths[self.random.below(length)] = self.random.pick(&[FARTHEST + 1, u32::MAX]);
+        }
+        if self.random.once_in(FAULT) {
+            depths[self.random.below(length)] = self.random.pick(&[1, lens.focal]);
         }
         depths
     }

@@ -72,10 +72,10 @@ fn depths_near_halves(lens: Lens, random: &mut Random) -> Vec<u32> {
             if random.once_in(2) { at_infinity + odd * step } else { at_infinity - odd * step };
         let depth = if below == 0 { 0 } else { at_infinity * focus / below };
         let near = depth + random.below(3) as i128 - 1;
-        if (0..=i128::from(FARTHEST)).contains(&near) {
+        if near == 0 || (focal + 1..=i128::from(FARTHEST)).contains(&near) {
             near as u32
         } else {
-            random.within(0, FARTHEST as usize) as u32
+            random.within(lens.focal as usize + 1, FARTHEST as usize) as u32
         }
     };
     std::iter::repeat_with(depth).take(WIDTH * HEIGHT).collect()

@@ -42,6 +42,7 @@ fn run_with_engine(object: &Path) {
     let text = "put 0 16 count 1\nput 0 16 count 2\nput 8 0 count 2\n\
                 show 0: 46/255 100/28 100/28\n\
                 show 0: 100/28 100/28 100/28\n\
+                fill 17\nfill 0\n\
                 show 0: 7/255 8/255 9/255\n";
     assert_eq!(String::from_utf8_lossy(&output.stdout), text);
 }

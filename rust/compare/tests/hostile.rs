@@ -6,6 +6,7 @@
 
 use compare::engine::{Engine, Handmade, Stored};
 use compare::guard::{Guarded, PlateBuffers, ShowBuffers};
+use compare::numbers::Numbers;
 use compare::random::Random;
 use compare::say;
 use compare::step::{Maker, Step};
@@ -14,46 +15,36 @@ use reference::{Answer, State};
 
 const CASES: usize = 40_000;
 
-#[derive(Default)]
-struct Tally {
-    /// By call and number: open, put, undo, fill, show.
-    numbers: [[usize; 13]; 5],
-}
+/// The calls, and the refusals of each.
+const CALLS: [(&str, &[u32]); 5] = [
+    ("open", &[1, 2]),
+    ("put", &[1, 2, 3, 4, 5, 6, 7, 8, 10]),
+    ("undo", &[1, 2, 3, 9, 10]),
+    ("fill", &[1, 2, 3, 5, 6, 11, 12, 17]),
+    ("show", &[1, 2]),
+];
 
-impl Tally {
-    fn say(&self, name: &str) {
-        for (call, numbers) in ["open", "put", "undo", "fill", "show"].iter().zip(self.numbers)
-        {
-            let refused: String = (1..13)
-                .filter(|&number| numbers[number] > 0)
-                .map(|number| format!(" {number}: {}", numbers[number]))
-                .collect();
-            say(&format!(
-                "{name}, hostile {call}: {} calls, {} accepted, refused{refused}",
-                numbers.iter().sum::<usize>(),
-                numbers[0],
-            ));
-        }
-    }
-}
-
+/// Every refusal of each call comes up.
 fn hostile_calls<E: Engine>() {
     let random = &mut Random::new(21);
-    let tally = &mut Tally::default();
+    let tally = &mut CALLS.map(|_| Numbers::default());
     for _ in 0..CASES {
         hostile_call::<E>(random, tally);
     }
-    tally.say(E::NAME);
+    for ((call, refusals), numbers) in CALLS.iter().zip(tally) {
+        say(&format!("{}, hostile {call}: {} calls, {numbers}", E::NAME, numbers.calls()));
+        assert_eq!(numbers.refusals(), *refusals, "{}: hostile {call}", E::NAME);
+    }
 }
 
-fn hostile_call<E: Engine>(random: &mut Random, tally: &mut Tally) {
+fn hostile_call<E: Engine>(random: &mut Random, tally: &mut [Numbers; 5]) {
     let (width, height) = (random.within(1, 4), random.within(1, 4));
     let reach = if random.once_in(50) { random.within(0, 64) } else { random.within(0, 4) };
     let mut plate = hostile_plate(width, height, reach, random);
     let count = random.below(plate.log.len() + 1);
     let state = hostile_state(State { width, height, reach, count }, random);
     let mut model = plate.clone();
-    let call = random.below(5);
+    let call = random.below(CALLS.len());
     let (answer, expected) = match call {
         0 => (open::<E>(state, &mut plate), open::<Stored>(state, &mut model)),
         4 => {
@@ -80,7 +71,7 @@ fn hostile_call<E: Engine>(random: &mut Random, tally: &mut Tally) {
     assert_eq!(answer, expected, "{}: call {call} on {state:?}", E::NAME);
     assert!(plate.guards_hold(), "{}: call {call} wrote beyond its buffers", E::NAME);
     assert!(plate.same_cells(&model), "{}: call {call} on {state:?}, {answer:?}", E::NAME);
-    tally.numbers[call][answer.number as usize] += 1;
+    tally[call].count(answer.number);
 }
 
 fn open<E: Engine>(sizes: State, plate: &mut PlateBuffers) -> Answer {

@@ -11,6 +11,11 @@ use reference::{Put, State};
 const SIZES: [(usize, usize); 10] =
     [(1, 1), (1, 2), (1, 17), (17, 1), (2, 2), (3, 5), (9, 9), (40, 3), (4, 33), (24, 24)];
 
+/// All that a list can meet: its plate has lawful sizes and buffers, and the state is the
+/// one that the call before left.
+const REFUSALS: [u32; 10] = [2, 4, 5, 6, 7, 8, 9, 11, 12, 17];
+
+/// Every one of these refusals comes up.
 fn random_lists<E: Engine>(seed: u64, lists: usize) {
     let random = &mut Random::new(seed);
     let tally = &mut Tally::default();
@@ -23,6 +28,7 @@ fn random_lists<E: Engine>(seed: u64, lists: usize) {
         }
     }
     say(&format!("{}, random lists: {tally}", E::NAME));
+    assert_eq!(tally.numbers.refusals(), REFUSALS, "{}", E::NAME);
 }
 
 fn random_list<E: Engine>(sizes: State, random: &mut Random, tally: &mut Tally) {

@@ -1,5 +1,5 @@
-//! Every example that the paper gives by calls: the table of refused calls, 1 to 12, the
-//! checked examples that show at a call, and the mark counts. (13 to 16 are the record
+//! Every example that the paper gives by calls: the table of refused calls, 1 to 12 and 17,
+//! the checked examples that show at a call, and the mark counts. (13 to 16 are the record
 //! program's.)
 
 use compare::engine::{Engine, Handmade, Stored};
@@ -63,12 +63,13 @@ fn refused_calls<E: Engine>() {
     assert_eq!(plate.undo::<E>().number, 10);
     assert_eq!(plate.put::<E>(Put { x: 1, ..PUT }).number, 0);
 
-    // 11 and 12: S = f; 10,000,001.
+    // 11, 12 and 17: S = f; 10,000,001; a depth of f.
     let mut plate = Plate::open::<E>(3, 2, 3, 0);
     let lens = Lens { focus: PAPER_LENS.focal, ..PAPER_LENS };
     assert_eq!(plate.fill::<E>(lens, 0, Flat { depth: 10_000_001, ..FLAT }).number, 11);
     assert_eq!(plate.fill::<E>(PAPER_LENS, 0, Flat { depth: 10_000_001, ..FLAT }).number, 12);
     assert_eq!(plate.fill::<E>(PAPER_LENS, 0, Flat { depth: 10_000_000, ..FLAT }).number, 0);
+    assert_eq!(plate.fill::<E>(PAPER_LENS, 0, Flat { depth: 500, ..FLAT }).number, 17);
 }
 
 fn checked_examples<E: Engine>() {

@@ -102,6 +102,7 @@ pub(crate) fn fill(
         && (1..=1_000).contains(&lens.pitch);
     require(lens_lawful, 11)?;
     require(depths.iter().all(|&depth| depth <= FARTHEST), 12)?;
+    require(depths.iter().all(|&depth| depth == 0 || depth > lens.focal), 17)?;
     Ok(layout)
 }
 

@@ -58,7 +58,7 @@ pub struct Layer<'a> {
     /// 0 to 4,095.
     pub values: &'a [u16],
     pub opacities: &'a [u8],
-    /// In 0.1 mm, at most 10,000,000; 0 is infinity.
+    /// In 0.1 mm, above the lens's focal length and at most 10,000,000; 0 is infinity.
     pub depths: &'a [u32],
 }
 
@@ -164,7 +164,8 @@ impl Plate {
     ///
     /// # Errors
     /// [`Refusal::Lengths`] if a part of the layer has another length than width × height,
-    /// [`Refusal::Value`], [`Refusal::Lens`], or [`Refusal::Depth`].
+    /// [`Refusal::Value`], [`Refusal::Lens`], [`Refusal::Depth`], or
+    /// [`Refusal::DepthInside`].
     pub fn fill(&mut self, lens: Lens, shape: Shape, layer: Layer) -> Result<(), Refusal> {
         let Plate { state, planes, pixels, log, .. } = self;
         let answer = raw::fill(
@@ -208,7 +209,7 @@ impl Plate {
             return Ok(answer.marks);
         }
         let refusal = Refusal::from_number(answer.number);
-        Err(refusal.expect("the engine answers 0 to 12"))
+        Err(refusal.expect("the engine answers 0 or a refusal's number"))
     }
 }
 
@@ -263,5 +264,22 @@ mod tests {
         let layer = Layer { depths: &[20_000; 4], ..layer };
         assert_eq!(plate.fill(lens, Shape::Box, layer), Ok(()));
         assert_eq!(plate.show().values, [7; 4]);
+    }
+
+    #[test]
+    fn a_depth_inside_the_lens_is_refused() {
+        let mut plate = Plate::open(2, 1, 3, 0).unwrap();
+        let lens = Lens { opening: 250, focal: 500, focus: 20_000, pitch: 50 };
+        let mut fill = |value: u16, depth: u32| {
+            let depths = [20_000, depth];
+            let layer = Layer { values: &[value; 2], opacities: &[255; 2], depths: &depths };
+            let answer = plate.fill(lens, Shape::Octagon, layer);
+            (answer, plate.show().values)
+        };
+        assert_eq!(fill(7, 0), (Ok(()), vec![7; 2]));
+        for depth in [1, 499, 500] {
+            assert_eq!(fill(8, depth), (Err(Refusal::DepthInside), vec![7; 2]));
+        }
+        assert_eq!(fill(8, 501), (Ok(()), vec![8; 2]));
     }
 }

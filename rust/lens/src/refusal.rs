@@ -21,10 +21,12 @@ pub enum Refusal {
     StoredWord = 10,
     Lens = 11,
     Depth = 12,
+    /// A depth that is not 0, infinity, and not above the lens's focal length.
+    DepthInside = 17,
 }
 
 /// All of them. Their numbers need not follow one another.
-const ALL: [Refusal; 12] = [
+const ALL: [Refusal; 13] = [
     Refusal::Sizes,
     Refusal::Lengths,
     Refusal::LogCount,
@@ -37,6 +39,7 @@ const ALL: [Refusal; 12] = [
     Refusal::StoredWord,
     Refusal::Lens,
     Refusal::Depth,
+    Refusal::DepthInside,
 ];
 
 impl Refusal {
@@ -81,6 +84,10 @@ impl fmt::Display for Refusal {
                  length and at most 10,000,000, the pitch 1 to 1,000"
             }
             Refusal::Depth => "a depth is above 10,000,000",
+            Refusal::DepthInside => {
+                "a depth lies inside the lens, above 0 and at most its focal length; give \
+                 depths in 0.1 mm, as the lens has, and 0 for infinity"
+            }
         };
         write!(f, "refused ({}): {message}", self.number())
     }

@@ -95,6 +95,9 @@ impl Notebook {
         if fill.depths.iter().any(|&depth| depth > FARTHEST) {
             return Report::refused(12);
         }
+        if fill.depths.iter().any(|&depth| fill.lens.is_inside(depth)) {
+            return Report::refused(17);
+        }
         let top = shape.top_under(self.reach);
         for (place, pixel) in self.grid.pixels.iter_mut().enumerate() {
             *pixel = Pixel {

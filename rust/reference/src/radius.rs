@@ -21,6 +21,11 @@ impl Lens {
             && (1..=1_000).contains(&self.pitch)
     }
 
+    /// Whether a depth lies inside the lens: not 0, which is infinity, and at most f.
+    pub fn is_inside(self, depth: u32) -> bool {
+        depth != 0 && depth <= self.focal
+    }
+
     /// The radius of a lawful lens at a lawful depth, at most `top`.
     pub fn radius(self, depth: u32, top: usize) -> u8 {
         let [d, f, s, p] = [self.opening, self.focal, self.focus, self.pitch].map(u128::from);

@@ -5,7 +5,7 @@ use crate::marks::Layout;
 use crate::pixel::{Pixel, from_entry};
 use crate::radius::FARTHEST;
 use crate::rounding::TOP_VALUE;
-use crate::{Fill, Put, State};
+use crate::{Fill, Lens, Put, State};
 
 /// A call with what it alone is lent.
 #[derive(Clone, Copy, Debug)]
@@ -34,11 +34,15 @@ pub struct Plate<'a> {
 /// The longest log.
 pub const TOP_LOG: usize = 65_535;
 
-/// The lowest number of 1 to 12 that applies, or 0. Open's sizes come as the state.
+/// The numbers that calls refuse with, in the order in which they are checked: 13 to 16 are
+/// the record program's.
+const NUMBERS: [u32; 13] = [1, 2, 3, 4, 5, 6, 7, 8, 9, 10, 11, 12, 17];
+
+/// The first number that applies, or 0. Open's sizes come as the state.
 pub fn expected_refusal(call: Call, state: State, plate: Plate) -> u32 {
-    // A number is looked at only when no lower one applies, so each condition may
+    // A number is looked at only when none before it applies, so each condition may
     // rely on those before it.
-    (1..=12).find(|&number| applies(number, call, state, plate)).unwrap_or(0)
+    NUMBERS.into_iter().find(|&number| applies(number, call, state, plate)).unwrap_or(0)
 }
 
 fn applies(number: u32, call: Call, state: State, plate: Plate) -> bool {
@@ -54,7 +58,8 @@ fn applies(number: u32, call: Call, state: State, plate: Plate) -> bool {
         9 => matches!(call, Call::Undo) && state.count == 0,
         10 => stored_breaks(call, state, plate),
         11 => matches!(call, Call::Fill(fill) if !fill.lens.is_lawful()),
-        12 => matches!(call, Call::Fill(fill) if fill.depths.iter().any(|&z| z > FARTHEST)),
+        12 => some_depth(call, |_, depth| depth > FARTHEST),
+        17 => some_depth(call, Lens::is_inside),
         _ => unreachable!("calls know no number {number}"),
     }
 }
@@ -111,6 +116,10 @@ fn radius_above(call: Call, state: State) -> bool {
     };
     let shape = Shape::from_number(put.shape).expect("6 does not apply");
     usize::from(put.radius) > shape.top_under(state.reach)
+}
+
+fn some_depth(call: Call, such: impl Fn(Lens, u32) -> bool) -> bool {
+    matches!(call, Call::Fill(fill) if fill.depths.iter().any(|&depth| such(fill.lens, depth)))
 }
 
 /// Put reads the word at its place, undo the last entry and the word at its place.

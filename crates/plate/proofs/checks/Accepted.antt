@@ -104,7 +104,7 @@ fill-accepted s n values opacities depths e =
       depths-are = q .1 .1;
     }
 
--- 5, 6, 11 and 12 of a fill
+-- 5, 6, 11, 12 and 17 of a fill
 pub record LayerAccepted (o : LensOf) (f : Inputs) : Type 0 where
   pub values-in : (i : ℕ) → getD (f .values) i 0 ≤ valueTop
   pub lens-lawful : lawfulLens o ≡ true

@@ -1,11 +1,12 @@
 -- Each check of specs/Refusal.antt keeps to its row of the table: it refuses where the row's condition holds, and else says what
 -- comes next. The proofs go by what the numbers are, not by the tests that the checks are made of.
 use mathlib.Core.Path.{_≡_, refl, sym, _∙_}
-use mathlib.Core.Bool.{true, false}
+use mathlib.Core.Bool.{Bool, true, false}
 use mathlib.Core.Logic.{_≢_, _⊎_, inl, inr, ⊎-elim}
 use mathlib.Core.List.{List, [], _∷_}
 use Prim.Native.Nat.{ℕ, zero, suc, _*_, _≤_, _<_}
 use native.Mathlib.Omega.{arith}
+use lib.Dec.{ltb}
 use lib.ListN.{getD}
 use borrow.Author.Needs.{needs}
 use borrow.Author.Tests.{lt-ltb, le-ltb, le-leb, lt-leb, eq-eqb, ne-eqb}
@@ -22,9 +23,9 @@ use Rattle.kernels.specs.Fixed.{shapeCount, valueTop}
 use Rattle.plate.specs.Fixed.{planesInAll, scratchPlanes, sideTop, placesTop, reachTop, logTop}
 use Rattle.plate.specs.Layout.{Size, padded, places}
 use Rattle.plate.specs.Lent.{Sized, Ask}
-use Rattle.plate.specs.Refusal.{Refusal, Sizes, Lengths, LogCount, Place, Value, Shape, Radius, LogFull, LogEmpty, Lens, refuseIf, sizesCheck, lengthCheck, lentCheck, inputsCheck, countCheck, placeCheck, valueCheck, shapeCheck, radiusCheck, fullCheck, emptyCheck, anyOf, anyAbove, lensCheck}
+use Rattle.plate.specs.Refusal.{Refusal, Sizes, Lengths, LogCount, Place, Value, Shape, Radius, LogFull, LogEmpty, Lens, DepthInside, refuseIf, sizesCheck, lengthCheck, lentCheck, inputsCheck, countCheck, placeCheck, valueCheck, shapeCheck, radiusCheck, fullCheck, emptyCheck, anyOf, anyAbove, isBetween, lensCheck, insideCheck}
 use Rattle.plate.specs.Change.{knownShape}
-use Rattle.plate.specs.Table.{SizesOutside, LentWrong, PlaceOutside, SomeAbove, ShapeAbove, RadiusAbove, LensOutside, LawfulSize, LentFor}
+use Rattle.plate.specs.Table.{SizesOutside, LentWrong, PlaceOutside, SomeOf, ShapeAbove, RadiusAbove, LensOutside, InsideLens, LawfulSize, LentFor}
 use Rattle.plate.proofs.checks.Rows.{Checks, refusing, passing, checks-both}
 
 -- what closes an equation between a chain of tests and its answer
@@ -181,38 +182,76 @@ empty-checks n =
     (λ e. refusing (λ a b. omega arith) e (λ next. search tests))
     (λ e. passing (λ a b. omega arith) (omega arith) (λ next. search tests))
 
--- 5 and 12 of a fill: whether one of the numbers is above the top
-some-apart : (top : ℕ) (ns : List ℕ) → SomeAbove top ns → ((i : ℕ) → getD ns i 0 ≤ top) → ⊥
-unfolding SomeAbove
-some-apart top [] a b = a
-some-apart top (n ∷ ns) (inl h) b = omega (arith, b 0)
-some-apart top (n ∷ ns) (inr h) b = some-apart top ns h (λ i. b (suc i))
+-- 5, 12 and 17 of a fill: whether one of the numbers of a list is such a one, by a test that tells it of each number. A number
+-- that is no such one is clear; 0 has to be, since a list reads as 0 past its end.
+record Tells (such clear : ℕ → Type 0) (test : ℕ → Bool) : Type 0 where
+  apart : (n : ℕ) → such n → clear n → ⊥
+  told : (n : ℕ) → (such n × (test n ≡ true)) ⊎ (clear n × (test n ≡ false))
+  past-end : clear 0
 
--- each number of a list that has one more in front
-each-first : (top n : ℕ) (ns : List ℕ) → n ≤ top → ((i : ℕ) → getD ns i 0 ≤ top) → (i : ℕ) → getD (n ∷ ns) i 0 ≤ top
-each-first top n ns h all zero = h
-each-first top n ns h all (suc i) = all i
+module _ {such clear : ℕ → Type 0} {test : ℕ → Bool} (t : Tells such clear test) where
+  some-apart : (ns : List ℕ) → SomeOf such ns → ((i : ℕ) → clear (getD ns i 0)) → ⊥
+  unfolding SomeOf
+  some-apart [] a b = a
+  some-apart (n ∷ ns) (inl h) b = t .apart n h (b 0)
+  some-apart (n ∷ ns) (inr h) b = some-apart ns h (λ i. b (suc i))
 
-above-told : (top : ℕ) (ns : List ℕ)
-    → (SomeAbove top ns × (anyAbove top ns ≡ true)) ⊎ (((i : ℕ) → getD ns i 0 ≤ top) × (anyAbove top ns ≡ false))
-unfolding SomeAbove anyOf
-above-told top [] = inr (λ i. omega arith, refl)
-above-told top (n ∷ ns) =
-    by-lt top n
-    (λ h. inl (inl h, search tests))
-    (λ h. ⊎-elim
-    (λ t. inl (inr (t .0), rw (le-ltb top n h) (t .1)))
-    (λ t. inr (each-first top n ns h (t .0), rw (le-ltb top n h) (t .1)))
-    (above-told top ns))
+  -- each number of a list that has one more in front
+  each-first : (n : ℕ) (ns : List ℕ) → clear n → ((i : ℕ) → clear (getD ns i 0)) → (i : ℕ) → clear (getD (n ∷ ns) i 0)
+  each-first n ns h all zero = h
+  each-first n ns h all (suc i) = all i
+
+  some-told : (ns : List ℕ)
+      → (SomeOf such ns × (anyOf test ns ≡ true)) ⊎ (((i : ℕ) → clear (getD ns i 0)) × (anyOf test ns ≡ false))
+  unfolding SomeOf anyOf
+  some-told [] = inr ((λ i. t .past-end), refl)
+  some-told (n ∷ ns) =
+      ⊎-elim
+      (λ h. inl (inl (h .0), rw (h .1)))
+      (λ h. ⊎-elim
+      (λ s. inl (inr (s .0), rw (h .1) (s .1)))
+      (λ s. inr (each-first n ns (h .0) (s .0), rw (h .1) (s .1)))
+      (some-told ns))
+      (t .told n)
+
+  some-checks : (f : Refusal) (ns : List ℕ)
+      → Checks f (SomeOf such ns) ((i : ℕ) → clear (getD ns i 0)) (refuseIf (anyOf test ns) f)
+  unfolding refuseIf
+  some-checks f ns =
+      ⊎-elim
+      (λ s. refusing (some-apart ns) (s .0) (λ next. rw (s .1)))
+      (λ s. passing (some-apart ns) (s .0) (λ next. rw (s .1)))
+      (some-told ns)
+
+above-tells : (top : ℕ) → Tells (λ n. top < n) (λ n. n ≤ top) (ltb top)
+above-tells top =
+    record {
+      apart = λ n a b. omega arith;
+      told = λ n. by-lt top n (λ h. inl (h, lt-ltb top n h)) (λ h. inr (h, le-ltb top n h));
+      past-end = omega arith;
+    }
 
 pub above-checks : (f : Refusal) (top : ℕ) (ns : List ℕ)
-    → Checks f (SomeAbove top ns) ((i : ℕ) → getD ns i 0 ≤ top) (refuseIf (anyAbove top ns) f)
-unfolding refuseIf
-above-checks f top ns =
-    ⊎-elim
-    (λ t. refusing (some-apart top ns) (t .0) (λ next. rw (t .1)))
-    (λ t. passing (some-apart top ns) (t .0) (λ next. rw (t .1)))
-    (above-told top ns)
+    → Checks f (SomeOf (λ n. top < n) ns) ((i : ℕ) → getD ns i 0 ≤ top) (refuseIf (anyAbove top ns) f)
+above-checks f top = some-checks (above-tells top) f
+
+inside-tells : (l : LensOf) → Tells (InsideLens l) (λ d. ¬ (InsideLens l d)) (isBetween 0 (l .focal))
+unfolding isBetween
+inside-tells l =
+    record {
+      apart = λ d a b. b a;
+      told = λ d.
+          by-lt 0 d
+          (λ z. by-lt (l .focal) d
+          (λ h. inr ((λ a. omega (arith, a .1)), search tests))
+          (λ h. inl (((λ e. omega arith), h), search tests)))
+          (λ z. inr ((λ a. a .0 (omega arith)), search tests));
+      past-end = λ a. a .0 refl;
+    }
+
+pub inside-checks : (l : LensOf) (depths : List ℕ)
+    → Checks DepthInside (SomeOf (InsideLens l) depths) ((i : ℕ) → ¬ (InsideLens l (getD depths i 0))) (insideCheck l depths)
+inside-checks l = some-checks (inside-tells l) DepthInside
 
 -- 11
 lens-told : (l : LensOf) → LensOutside l ⊎ Lawful l

@@ -10,8 +10,8 @@ use lib.ListN.{length, getD}
 use borrow.Author.Tests.{le-ltb, le-leb, lt-leb, lt-ltb}
 use Rattle.kernels.specs.Choice.{pick}
 use Rattle.kernels.proofs.numbers.Choices.{by-lt}
-use Rattle.plate.specs.Refusal.{anyOf, anyAbove}
-use Rattle.plate.specs.code.Filling.{isBetween, numberTop}
+use Rattle.plate.specs.Refusal.{anyOf, anyAbove, isBetween}
+use Rattle.plate.specs.code.Filling.{numberTop}
 use Rattle.plate.proofs.checks.Conditions.{true-not}
 use Rattle.plate.proofs.numbers.Extents.{row-in}
 

@@ -12,12 +12,12 @@ use Rattle.kernels.specs.Shape.{shapeOf}
 use Rattle.plate.specs.Layout.{Size, sizeFrom}
 use Rattle.plate.specs.Lent.{State, stateOf, Lent, sizedAs, Ask, Inputs, Views}
 use Rattle.plate.specs.Word.{readWord, readEntry}
-use Rattle.plate.specs.Refusal.{Refusal, Sizes, Lengths, LogCount, Place, Value, Shape, Radius, LogFull, StoredWord, Lens, Depth, Outcome, Accepted, Refused, openCheck, plateCheck, askCheck, putCheck, undoCheck, emptyCheck, fillFirst, layerCheck, fillCheck, viewsCheck, showCheck}
+use Rattle.plate.specs.Refusal.{Refusal, Sizes, Lengths, LogCount, Place, Value, Shape, Radius, LogFull, StoredWord, Lens, Depth, DepthInside, Outcome, Accepted, Refused, openCheck, plateCheck, askCheck, putCheck, undoCheck, emptyCheck, fillFirst, layerCheck, fillCheck, viewsCheck, showCheck}
 use Rattle.plate.specs.Change.{Change, ChangeRead, ToChange, NoChange, askedPlace, putOver, putReadBy, putRead, undoOver, undoEntry, undoReadBy, undoRead}
 use Rattle.plate.specs.Calls.{Left, refused, Shown, shows, answerOf, openBy, openCall, putBy, putCall, undoBy, undoCall, fillBy, fillCall, showBy, showCall, changed}
-use Rattle.plate.specs.Table.{AnswersBy, SizesOutside, LentWrong, InputsWrong, ViewsWrong, CountAbove, PlaceOutside, ValueAbove, SomeAbove, ShapeAbove, RadiusAbove, WordBroken, EntryBroken, placeIn, LensOutside, LawfulSize, openRows, putRows, undoRows, fillRows, showRows, GoesBy, ShowGoesBy, Orders, Demand1, OpenAccepts}
+use Rattle.plate.specs.Table.{AnswersBy, SizesOutside, LentWrong, InputsWrong, ViewsWrong, CountAbove, PlaceOutside, ValueAbove, SomeOf, ShapeAbove, RadiusAbove, WordBroken, EntryBroken, placeIn, LensOutside, DepthAbove, InsideLens, LawfulSize, openRows, putRows, undoRows, fillRows, showRows, GoesBy, ShowGoesBy, Orders, Demand1, OpenAccepts}
 use Rattle.plate.proofs.checks.Rows.{refused-not, last-row, andThen, answers-then, first-check, checks-both}
-use Rattle.plate.proofs.checks.Conditions.{sizes-checks, lent-checks, inputs-checks, views-checks, count-checks, place-checks, value-checks, shape-checks, radius-checks, full-checks, empty-checks, above-checks, lens-checks}
+use Rattle.plate.proofs.checks.Conditions.{sizes-checks, lent-checks, inputs-checks, views-checks, count-checks, place-checks, value-checks, shape-checks, radius-checks, full-checks, empty-checks, above-checks, inside-checks, lens-checks}
 use Rattle.plate.proofs.checks.Passed.{sizes-pass, lent-pass}
 use Rattle.plate.proofs.checks.Accepted.{plate-accepted}
 use Rattle.plate.proofs.words.Stored.{WordTold, word-told, EntryTold, entry-told}
@@ -162,13 +162,14 @@ undo-goes s l =
     (entry-told z (getD (l .log) (s .count - 1) 0) (plate-accepted s (sizedAs l) _ e .0 .lawful)))))
 
 -- FILL
--- 5 6 11 12
+-- 5 6 11 12 17
 layer-first : (o : LensOf) (k : ℕ) (f : Inputs)
     → AnswersBy
-    (row Value (SomeAbove valueTop (f .values))
+    (row Value (SomeOf ValueAbove (f .values))
     ∷ row Shape (ShapeAbove k)
     ∷ row Lens (LensOutside o)
-    ∷ row Depth (SomeAbove depthTop (f .depths))
+    ∷ row Depth (SomeOf DepthAbove (f .depths))
+    ∷ row DepthInside (SomeOf (InsideLens o) (f .depths))
     ∷ [])
     (layerCheck o k f)
 unfolding layerCheck
@@ -176,7 +177,8 @@ layer-first o k f =
     first-check (above-checks Value valueTop (f .values)) _ _ (λ _.
     first-check (shape-checks k) _ _ (λ _.
     first-check (lens-checks o) _ _ (λ _.
-    first-check (above-checks Depth depthTop (f .depths)) [] Accepted (λ _. last-row))))
+    first-check (above-checks Depth depthTop (f .depths)) _ _ (λ _.
+    first-check (inside-checks o (f .depths)) [] Accepted (λ _. last-row)))))
 
 fill-goes : (s : State) (o : LensOf) (k : ℕ) (f : Inputs) (l : Lent) → GoesBy (fillRows s o k f l) s l (fillCall s o k f l)
 unfolding fillCall fillBy fillCheck fillFirst InputsWrong

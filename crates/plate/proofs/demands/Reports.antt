@@ -12,7 +12,7 @@ use Rattle.kernels.specs.declared.lens.Lens.{Lens as LensOf}
 use Rattle.kernels.proofs.taps.ShapeNumbers.{count-few}
 use Rattle.plate.specs.Layout.{Size}
 use Rattle.plate.specs.Word.{Pixel, Entry}
-use Rattle.plate.specs.Refusal.{Refusal, Sizes, Lengths, LogCount, Place, Value, Shape as ShapeRefused, Radius, LogFull, LogEmpty, StoredWord, Lens, Depth, refusalNumber, Outcome, Accepted, Refused, askCheck}
+use Rattle.plate.specs.Refusal.{Refusal, Sizes, Lengths, LogCount, Place, Value, Shape as ShapeRefused, Radius, LogFull, LogEmpty, StoredWord, Lens, Depth, DepthInside, refusalNumber, Outcome, Accepted, Refused, askCheck}
 use Rattle.plate.specs.Lent.{Ask, ask, Inputs, inputs}
 use Rattle.plate.specs.Change.{askedPlace, askedPixel, knownShape}
 use Rattle.plate.specs.Plain.{pixelAt}
@@ -43,6 +43,7 @@ refusal-some LogEmpty = lit≤ tt
 refusal-some StoredWord = lit≤ tt
 refusal-some Lens = lit≤ tt
 refusal-some Depth = lit≤ tt
+refusal-some DepthInside = lit≤ tt
 
 -- WHAT EACH CALL REPORTS
 -- an accepted call reports n marks, a refused one none

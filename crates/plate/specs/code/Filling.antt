@@ -1,12 +1,10 @@
 -- How the code fills a plate: what all pixels of a layer share, what its loops count on, and what they have done after n pixels.
 use mathlib.Core.Path.{_≡_}
-use mathlib.Core.Bool.{Bool, true, false}
+use mathlib.Core.Bool.{true}
 use mathlib.Core.List.{List, _∷_, map}
 use Prim.Native.Nat.{ℕ, _+_, _*_, _-_, _^_, _≤_, _<_, min}
-use lib.Dec.{leb}
 use lib.ListN.{getD, length}
 use Rattle.kernels.specs.Fixed.{valueTop, depthTop}
-use Rattle.kernels.specs.Choice.{pick}
 use Rattle.kernels.specs.declared.shape.Shape.{Shape as ShapeOf}
 use Rattle.kernels.specs.Shape.{shapeOf, topUnder}
 use Rattle.kernels.specs.declared.lens.Lens.{Lens as LensOf}
@@ -35,10 +33,6 @@ fillLengths s n values opacities depths =
 abbrev pub numberTop : ℕ
 numberTop = 2 ^ 32 - 1
 
--- above the one bound and not above the other
-unfoldable pub isBetween : ℕ → ℕ → ℕ → Bool
-isBetween low top n = pick (leb n low) false (leb n top)
-
 -- THE LAYER
 abbrev pub layerOf : Size → LensOf → ShapeOf → Layer
 layerOf z l k = record { frame = frameOf z; lens = l; shape = k; top = topUnder k (z .reach) }
@@ -48,7 +42,7 @@ abbrev pub readBy : Outcome → Layer → LayerRead
 readBy Accepted j = ToFill j
 readBy (Refused f) j = NoFill f
 
--- by 5, 6, 11 and 12
+-- by 5, 6, 11, 12 and 17
 abbrev pub inputsRead : Size → LensOf → ℕ → Inputs → LayerRead
 inputsRead z l k f = readBy (layerCheck l k f) (layerOf z l (knownShape (shapeOf k)))
 

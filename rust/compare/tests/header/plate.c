@@ -28,12 +28,20 @@ static void show(lens_state state)
     printf("\n");
 }
 
-int main(void)
+static lens_state fill(lens_state state, const uint32_t *depths)
 {
     lens_lens lens = { 250, 500, 20000, 50 };
     const uint16_t layer[W * H] = { 7, 8, 9 };
     const uint8_t opacities[W * H] = { 255, 255, 255 };
-    const uint32_t depths[W * H] = { 20000, 20000, 20000 };
+    lens_answer answer = lens_fill(state, lens, 5, layer, W * H, opacities, W * H, depths,
+                                   W * H, planes, 14 * P, pixels, W * H, undo_log, LOG);
+    printf("fill %u\n", (unsigned)answer.number);
+    return answer.state;
+}
+
+int main(void)
+{
+    uint32_t depths[W * H] = { 20000, 20000, 500 };
     lens_state state =
         lens_open(W, H, R, planes, 14 * P, pixels, W * H, undo_log, LOG).state;
     state = put(state, 1, 100, 1);
@@ -42,9 +50,9 @@ int main(void)
     show(state);
     state = lens_undo(state, planes, 14 * P, pixels, W * H, undo_log, LOG).state;
     show(state);
-    state = lens_fill(state, lens, 5, layer, W * H, opacities, W * H, depths, W * H, planes,
-                      14 * P, pixels, W * H, undo_log, LOG)
-                .state;
+    state = fill(state, depths);
+    depths[2] = 20000;
+    state = fill(state, depths);
     show(state);
     return 0;
 }

@@ -3,7 +3,7 @@ use mathlib.Core.Path.{_≡_}
 use mathlib.Core.List.{List}
 use Prim.Native.Nat.{ℕ}
 use borrow.Author.Needs.{needs}
-use Rattle.plate.specs.Refusal.{Accepted, refuseIf, anyAbove, shapeCheck, lensCheck, depthsCheck, layerCheck}
+use Rattle.plate.specs.Refusal.{Accepted, Depth, refuseIf, anyAbove, shapeCheck, lensCheck, depthsCheck, insideCheck, layerCheck}
 use Rattle.plate.specs.Lent.{inputs}
 use Rattle.plate.proofs.checks.Scans.{above-found}
 use Rattle.plate.proofs.layer.read_inputs.Statement.{statement}
@@ -15,7 +15,7 @@ use Rattle.kernels.proofs.taps.ShapeNumbers.{shape-read}
 past : (c : tie.After-known-told) (opacities : List ℕ)
     → let a = c .before .before .before .before .before .before .before .before .args in
     layerCheck (a .lens) (a .shape) (inputs (a .values .now) opacities (a .depths .now))
-    ≡ lensCheck (a .lens) (depthsCheck (a .depths .now) Accepted)
+    ≡ lensCheck (a .lens) (depthsCheck (a .depths .now) (insideCheck (a .lens) (a .depths .now) Accepted))
 unfolding layerCheck refuseIf shapeCheck
 past c opacities =
     let known = c .before in
@@ -25,10 +25,21 @@ past c opacities =
 
 -- the scan for depths past their top
 deep : (c : tie.After-depth-between)
-    → let lensed = c .before in
-    let a = lensed .before .before .before .before .before .before .before .before .before .before .args in
+    → let shaped = c .before .before .before in
+    let a = shaped .before .before .before .before .before .before .before .before .args in
     c .depth-between .result ≡ anyAbove depthTop (a .depths .now)
 deep c = above-found depthTop _ _ (c .depth-between .ensures .0) (c .depth-between .ensures .1)
+
+-- past the lens's check too, by that scan
+past-lens : (c : tie.After-depth-between) (opacities : List ℕ)
+    → let shaped = c .before .before .before in
+    let a = shaped .before .before .before .before .before .before .before .before .args in
+    layerCheck (a .lens) (a .shape) (inputs (a .values .now) opacities (a .depths .now))
+    ≡ refuseIf (c .depth-between .result) Depth (insideCheck (a .lens) (a .depths .now) Accepted)
+unfolding refuseIf
+past-lens c opacities =
+    let lensed = c .before in
+    rw (past (lensed .before .before) opacities, ← lensed .before .lawful-lens .ensures, lensed .if2 .left, ← deep c)
 
 value-above-requires : tie.Need-value-above-requires
 value-above-requires c κs = c .before .before .pre .1
@@ -67,36 +78,41 @@ returns-3 c =
     λ opacities. rw (past (c .before .before) opacities, ← c .before .lawful-lens .ensures, c .if2 .taken)
 
 depth-between-requires : tie.Need-depth-between-requires
-depth-between-requires c κs = c .before .before .before .before .before .before .before .before .before .before .pre .2
+depth-between-requires c κs = search needs
 
 returns-4 : tie.Need-returns-4
 unfolding refuseIf
-returns-4 c =
-    let lensed = c .before .before in
-    λ opacities. rw (
-      past (lensed .before .before) opacities,
-      ← lensed .before .lawful-lens .ensures,
-      lensed .if2 .left,
-      ← deep (c .before),
-      c .if3 .taken,
-    )
+returns-4 c = λ opacities. rw (past-lens (c .before) opacities, c .if3 .taken)
 
-layer-of-requires : tie.Need-layer-of-requires
-layer-of-requires c κs =
-    c .before .before .before .before .before .before .before .before .before .before .before .before .pre .0
+depth-between-requires-2 : tie.Need-depth-between-requires-2
+depth-between-requires-2 c κs = search needs
 
 returns-5 : tie.Need-returns-5
 unfolding refuseIf
 returns-5 c =
-    let shallow = c .before in
-    let lensed = shallow .before .before in
-    let known = lensed .before .before in
+    let scanned = c .before in
+    let shallow = scanned .before in
     λ opacities. rw (
-      past known opacities,
-      ← lensed .before .lawful-lens .ensures,
-      lensed .if2 .left,
-      ← deep (shallow .before),
+      past-lens (shallow .before) opacities,
       shallow .if3 .left,
+      ← scanned .depth-between2 .ensures .0,
+      c .if4 .taken,
+    )
+
+layer-of-requires : tie.Need-layer-of-requires
+layer-of-requires c κs = search needs
+
+returns-6 : tie.Need-returns-6
+unfolding refuseIf
+returns-6 c =
+    let outside = c .before in
+    let shallow = outside .before .before in
+    let known = shallow .before .before .before .before in
+    λ opacities. rw (
+      past-lens (shallow .before) opacities,
+      shallow .if3 .left,
+      ← outside .before .depth-between2 .ensures .0,
+      outside .if4 .left,
       c .layer-of .ensures,
       ← shape-read _ _ (known .before .before .before .shape-of .ensures),
       known .before .known .given .1,
@@ -116,5 +132,7 @@ read-inputs-spec =
     returns-3
     depth-between-requires
     returns-4
+    depth-between-requires-2
+    returns-5
     layer-of-requires
-    returns-5)
+    returns-6)

@@ -6,7 +6,7 @@ use native.Mathlib.Omega.{arith}
 use lib.ListN.{length}
 use borrow.Author.Count.{below-more}
 use borrow.Author.Needs.{needs}
-use Rattle.plate.specs.code.Filling.{isBetween}
+use Rattle.plate.specs.Refusal.{isBetween}
 use Rattle.plate.proofs.numbers.Extents.{row-in}
 use Rattle.plate.proofs.checks.Scans.{NoneTo, SmallTo, small-all, none-found, one-found}
 use Rattle.plate.proofs.checks.Conditions.{true-not}
