@@ -62,7 +62,7 @@ fn layer_of(size: Size, lens: Lens, shape: Shape) -> Layer
     }
 }
 
-// 5, 6, 11, 12 and 17: what a fill checks once its lengths are right.
+// 5, 6, 11, 12 and 17: what a fill checks once its lengths are right. Depth 0 is infinity, and not inside the lens.
 fn read_inputs(size: Size, lens: Lens, shape: u8, values: &[u16], depths: &[u32]) -> LayerRead
     requires { ⌜ LawfulSize size × (length (now values) ≡ places size) × (length (now depths) ≡ places size) ⌝ }
     ensures { λ r. ⌜ ((opacities : List ℕ) → r ≡ inputsRead size lens shape (inputs (now (values .entry)) opacities (now (depths .entry)))) ⌝ }
