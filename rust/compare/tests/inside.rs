@@ -99,20 +99,21 @@ const FAULTS: [(u32, Fault); 8] = [
     (17, |case| case.inputs.depths[PLACES - 1] = case.inputs.lens.focal),
 ];
 
-/// Every choice of these faults at once, and the depths in the other order too: the first of
-/// the chosen numbers is given.
+/// Every choice of these faults at once, with the depths as they stand and in the other order:
+/// the first of the chosen numbers is given.
 fn beside_each_other<E: Engine>() {
     for chosen in 0..1 << FAULTS.len() {
         let faults = || (0..).zip(FAULTS).filter(|(bit, _)| chosen >> bit & 1 == 1);
         let first = faults().next().map_or(0, |(_, (number, _))| number);
         let mut case = Case::lawful(PAPER_LENS);
         faults().for_each(|(_, (_, make))| make(&mut case));
-        assert_eq!(case.number::<E>(), first, "{}: faults {chosen:08b}", E::NAME);
-        case.inputs.depths.reverse();
-        assert_eq!(case.number::<E>(), first, "{}: faults {chosen:08b}", E::NAME);
-        // In a list the state is the plate's own.
-        if case.state == SIZES {
-            assert_eq!(case.number_by_notebook(), first, "notebook: faults {chosen:08b}");
+        for _ in 0..2 {
+            assert_eq!(case.number::<E>(), first, "{}: faults {chosen:08b}", E::NAME);
+            // In a list the state is the plate's own.
+            if case.state == SIZES {
+                assert_eq!(case.number_by_notebook(), first, "notebook: faults {chosen:08b}");
+            }
+            case.inputs.depths.reverse();
         }
     }
 }
