@@ -93,7 +93,9 @@ lens_answer lens_fill(lens_state state, lens_lens lens, uint8_t shape,
                       uint64_t *log, size_t log_len);
 
 /* Writes the two pictures of the pixels that stand there now: values 0 to 4,095, mattes 0
- * to 255. Leaves scratch all zero. Refuses 1, 2. */
+ * to 255, each to the nearest. A value half way between two goes to the even one, a matte
+ * upwards; a value is 0 where no pixel adds to the matte. Leaves scratch all zero. Refuses
+ * 1, 2. */
 lens_answer lens_show(lens_state state,
                       const uint64_t *planes, size_t planes_len,
                       uint64_t *scratch, size_t scratch_len,

@@ -1,15 +1,16 @@
--- What is proved of marks and sums, as statements. Cells are compared at 2^64, since "Sums wrap at 2^64 on the way".
+-- What is proved of marks, sums and rounding, as statements. Cells are compared at 2^64, since "Sums wrap at 2^64 on the way".
 use mathlib.Core.Path.{_≡_}
 use mathlib.Core.List.{List, [], _∷_}
 use Prim.Native.Nat.{ℕ, zero, suc, _+_, _*_, _-_, _^_, _%_, _≤_, _<_}
 use lib.Dec.{ltb}
 use lib.ListN.{length}
-use Rattle.kernels.specs.Fixed.{unit, planesEach, margin}
+use Rattle.kernels.specs.Fixed.{unit, planesEach, margin, valueTop}
 use Rattle.kernels.specs.Choice.{pick, within, same, strip}
 use Rattle.kernels.specs.Sum.{dist, Plane, down, slope, summed, finish}
 use Rattle.kernels.specs.Shape.{Shape, countOf, reachOf}
 use Rattle.kernels.specs.Tap.{boxTap, octagonTap, Taps, squareSum, weighted, weight}
 use Rattle.kernels.specs.Mark.{Mark, Run, runRow, slopePlane, runMarks, boxMarks, scaled, marks, planesOf}
+use Rattle.kernels.specs.Rounding.{shownValue}
 
 -- BOXES
 -- the box fact, for every n: the marks of n boxes around (X, Y), in whatever plane, summed across and down n times, are n boxes
@@ -115,3 +116,22 @@ abbrev pub NearFact : Type 0
 NearFact =
     (s : Shape) (r R X Y : ℕ) → reachOf s r ≤ R → R + margin ≤ X → R + margin ≤ Y
     → Each (Near (R + margin) X Y) (marks s r X Y)
+
+-- ROUNDING
+-- "round half to even": v times b is within half of b from a, and where it is exactly half, v is even
+pub record ToEven (a b v : ℕ) : Type 0 where
+  pub near : 2 * dist (v * b) a ≤ b
+  pub even : 2 * dist (v * b) a ≡ b → v % 2 ≡ 0
+
+-- one number keeps to it, and no other
+abbrev pub EvenOnce : Type 0
+EvenOnce = (a b v w : ℕ) → 0 < b → ToEven a b v → ToEven a b w → v ≡ w
+
+-- the shown value does, where light is below 4,095 and a half times matte
+abbrev pub ValueFact : Type 0
+ValueFact =
+    (light matte : ℕ) → 0 < matte → 2 * light < (2 * valueTop + 1) * matte → ToEven light matte (shownValue light matte)
+
+-- "at most 4,095": from there on it is that
+abbrev pub TopFact : Type 0
+TopFact = (light matte : ℕ) → 0 < matte → (2 * valueTop + 1) * matte ≤ 2 * light → shownValue light matte ≡ valueTop

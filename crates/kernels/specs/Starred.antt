@@ -50,8 +50,10 @@ starred =
     ∷ says (blur (lens 250 500 20000 50) 0) 64
     -- "D 1, f 1, S 2, p 100, Z 4: 2.5, so 3."
     ∷ says (blur (lens 1 1 2 100) 4) 3
-    -- "Light 5, matte 2: value 3. Matte 4,194,303 shows 0; 4,194,304 shows 1."
-    ∷ says (shownValue 5 2) 3
+    -- "light 5 with matte 2 gives 2, and light 7 with matte 2 gives 4"
+    ∷ says (shownValue 5 2) 2
+    ∷ says (shownValue 7 2) 4
+    -- "Matte 4,194,303 shows 0; 4,194,304 shows 1."
     ∷ says (shownMatte 4194303) 0
     ∷ says (shownMatte 4194304) 1
     ∷ []

@@ -1,10 +1,10 @@
-// Rounding to the nearest, a half upwards.
+// Rounding to the nearest: a half upwards, and for the shown value a half to even.
 use crate::fixed::MATTE_TOP;
 use crate::fixed::MATTE_UNIT;
 use crate::fixed::VALUE_TOP;
 ghost use mathlib.Core.Path.{_≡_};
 ghost use Prim.Native.Nat.{_<_};
-ghost use Rattle.kernels.specs.Rounding.{nearest, shownValue, shownMatte};
+ghost use Rattle.kernels.specs.Rounding.{nearest, nearestEven, shownValue, shownMatte};
 
 // a / b to the nearest, a half upwards. Nothing is doubled, so nothing wraps: the rest is at least a half where it is not
 // below what it lacks.
@@ -20,6 +20,20 @@ pub(crate) fn rounded(a: u64, b: u64) -> u64
     q + 1
 }
 
+// light / matte to the nearest, a half to even. The rest counts one more where the quotient is odd, so a half goes up there
+// alone. Nothing is doubled here either, and a rest is below matte, so nothing wraps.
+fn rounded_even(light: u64, matte: u64) -> u64
+    requires { ⌜ 0 < matte ⌝ }
+    ensures { λ r. ⌜ r ≡ nearestEven light matte ⌝ }
+{
+    let q = light / matte;
+    let rest = light % matte;
+    if matte - rest < rest + q % 2 {
+        return q + 1;
+    }
+    q
+}
+
 // The value that a cell shows: its light for each part of its matte.
 pub fn shown_value(light: u64, matte: u64) -> u16
     ensures { λ r. ⌜ r ≡ shownValue light matte ⌝ }
@@ -27,7 +41,7 @@ pub fn shown_value(light: u64, matte: u64) -> u16
     if matte == 0 {
         return 0;
     }
-    let q = rounded(light, matte);
+    let q = rounded_even(light, matte);
     if q < VALUE_TOP as u64 {
         return q as u16;
     }

@@ -1,6 +1,6 @@
 //! A plate with its own buffers, for calls made one by one.
 
-use reference::marks::Layout;
+use reference::marks::{Layout, PLANES, plane_of_slope};
 use reference::{Answer, Fill, Lens, Put, State};
 
 use crate::engine::Engine;
@@ -10,6 +10,13 @@ pub struct Plate {
     pub planes: Vec<u64>,
     pub pixels: Vec<u64>,
     log: Vec<u64>,
+}
+
+/// The finished sums of a cell.
+#[derive(Clone, Copy, Debug)]
+pub struct Sums {
+    pub light: u64,
+    pub matte: u64,
 }
 
 /// What every pixel of a flat layer has.
@@ -33,6 +40,16 @@ impl Plate {
             E::open(width, height, reach, &mut plate.planes, &mut plate.pixels, &mut plate.log);
         assert_eq!(answer.number, 0);
         plate.state = answer.state;
+        plate
+    }
+
+    /// One row high, with planes that no call makes: their finished sums are these.
+    pub fn with_sums<E: Engine>(sums: &[Sums]) -> Plate {
+        let mut plate = Plate::open::<E>(sums.len(), 1, 0, 0);
+        let layout = Layout::of(sums.len(), 1, 0);
+        let (light, matte) = plate.planes.split_at_mut(PLANES * layout.cells());
+        mark_row(light, layout, sums.iter().map(|sums| sums.light));
+        mark_row(matte, layout, sums.iter().map(|sums| sums.matte));
         plate
     }
 
@@ -74,5 +91,15 @@ impl Plate {
         let answer = E::show(self.state, &self.planes, &mut scratch, &mut values, &mut mattes);
         assert_eq!(answer.number, 0);
         (values, mattes)
+    }
+}
+
+/// Slope 0 is summed across, so each mark is what its sum has more than the one before.
+fn mark_row(planes: &mut [u64], layout: Layout, sums: impl Iterator<Item = u64>) {
+    let level = &mut planes[plane_of_slope(0) * layout.cells()..];
+    let mut before = 0;
+    for (mark, sum) in level[layout.first()..].iter_mut().zip(sums) {
+        *mark = sum.wrapping_sub(before);
+        before = sum;
     }
 }

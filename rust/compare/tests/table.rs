@@ -3,7 +3,7 @@
 //! program's.)
 
 use compare::engine::{Engine, Handmade, Stored};
-use compare::plate::{Flat, Plate};
+use compare::plate::{Flat, Plate, Sums};
 use compare::step::PAPER_LENS;
 use reference::marks::Layout;
 use reference::{Answer, Lens, Put, State};
@@ -126,18 +126,13 @@ fn mark_counts<E: Engine>() {
     assert_eq!((reported.iter().min(), reported.iter().max()), (Some(&16), Some(&40)));
 }
 
-/// Light 5, matte 2: value 3. Matte 4,194,303 shows 0; 4,194,304 shows 1.
+/// Light 5, matte 2: value 2; light 7, matte 2: value 4. Matte 4,194,303 shows 0; 4,194,304
+/// shows 1.
 fn rounding<E: Engine>() {
-    for (light, matte, value, shown) in
-        [(5, 2, 3, 0), (0, 4_194_303, 0, 0), (0, 4_194_304, 0, 1), (9, 0, 0, 0)]
-    {
-        let mut plate = Plate::open::<E>(1, 1, 0, 0);
-        let cells = plate.planes.len() / 14;
-        // In slope 0, at the image's only cell: row 3, column 3 of seven by seven.
-        plate.planes[2 * cells + 3 * 7 + 3] = light;
-        plate.planes[9 * cells + 3 * 7 + 3] = matte;
-        assert_eq!(plate.show::<E>(), (vec![value], vec![shown]));
-    }
+    let sums = [(5, 2), (7, 2), (0, 4_194_303), (0, 4_194_304), (9, 0)]
+        .map(|(light, matte)| Sums { light, matte });
+    let shown = Plate::with_sums::<E>(&sums).show::<E>();
+    assert_eq!(shown, (vec![2, 4, 0, 0, 0], vec![0, 0, 0, 1, 0]));
 }
 
 fn all<E: Engine>() {

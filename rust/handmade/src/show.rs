@@ -8,8 +8,9 @@
 //! somebody else wrote to the planes. What is left in the accumulators after the last
 //! row tells; if it is not 0, it tells the totals too, and a second pass starts with them.
 
+use crate::divide::{self, Half};
 use crate::layout::Layout;
-use crate::{Answer, State, check, divide, refused};
+use crate::{Answer, State, check, refused};
 
 pub fn show(
     state: State,
@@ -77,7 +78,10 @@ fn pass(
 fn round(light: &[u64], matte: &[u64], values: &mut [u16], mattes: &mut [u8]) {
     let shown = values.iter_mut().zip(mattes);
     for ((value, shown_matte), (&light, &matte)) in shown.zip(light.iter().zip(matte)) {
-        *value = if matte == 0 { 0 } else { divide::nearest(light, matte, 4_095) as u16 };
+        *value = match matte {
+            0 => 0,
+            _ => divide::nearest(light, matte, Half::Even, 4_095) as u16,
+        };
         *shown_matte = ((matte >> 23) + (matte >> 22 & 1)).min(255) as u8;
     }
 }

@@ -183,7 +183,8 @@ impl Plate {
         Ok(())
     }
 
-    /// The pictures of the pixels that stand there now.
+    /// The pictures of the pixels that stand there now, to the nearest code value: a value
+    /// half way between two goes to the even one, a matte upwards.
     pub fn show(&mut self) -> Pictures {
         let cells = self.state.width * self.state.height;
         let mut pictures = Pictures { values: vec![0; cells], mattes: vec![0; cells] };

@@ -15,7 +15,7 @@ const SECOND: usize = 5;
 const THIRD: usize = 6;
 
 /// The plane of a slope from −2 to 2.
-fn plane_of_slope(slope: i64) -> usize {
+pub fn plane_of_slope(slope: i64) -> usize {
     (slope + 2) as usize
 }
 
@@ -40,6 +40,11 @@ impl Layout {
     /// P, the cells of one plane.
     pub fn cells(self) -> usize {
         self.columns * self.rows
+    }
+
+    /// The cell of a plane where the image starts.
+    pub fn first(self) -> usize {
+        self.margin * self.columns + self.margin
     }
 
     /// All planes of both pictures.

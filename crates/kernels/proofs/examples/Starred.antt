@@ -6,7 +6,7 @@ use Rattle.kernels.specs.Choice.{within, same}
 use Rattle.kernels.specs.Sum.{sum}
 use Rattle.kernels.specs.Shape.{Box}
 use Rattle.kernels.specs.Tap.{shift, box, convolved, one, boxTap, tap, octagonTap, area, shareFor, share}
-use Rattle.kernels.specs.Rounding.{nearest, shownValue, shownMatte}
+use Rattle.kernels.specs.Rounding.{nearest, nearestEven, shownValue, shownMatte}
 use Rattle.kernels.specs.Lens.{blur}
 use Rattle.kernels.specs.Starred.{starred, Agree}
 use Rattle.kernels.proofs.taps.Areas.{countedArea, area-counted}
@@ -17,7 +17,7 @@ unfolding shareFor countedArea
 wide-share = ap (λ (n : ℕ). unit / n) (area-counted Box 64)
 
 pub starred-agree : Agree starred
-unfolding Agree area shareFor tap octagonTap boxTap convolved box shift one sum within same blur nearest shownValue shownMatte
+unfolding Agree area shareFor tap octagonTap boxTap convolved box shift one sum within same blur nearest nearestEven shownValue shownMatte
 starred-agree = (
   refl,
   (
@@ -72,7 +72,10 @@ starred-agree = (
                                                     refl,
                                                     (
                                                       refl,
-                                                      tt,
+                                                      (
+                                                        refl,
+                                                        tt,
+                                                      ),
                                                     ),
                                                   ),
                                                 ),

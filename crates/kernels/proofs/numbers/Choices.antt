@@ -18,7 +18,7 @@ by-lt a b p q = by-test (ltb a b) (λ e. p (ltb-true a b e)) (λ e. q (ltb-false
 pub by-eq : {P : Type 0} (a b : ℕ) → (a ≡ b → P) → ((a ≡ b → ⊥) → P) → P
 by-eq a b p q = by-test (eqb a b) (λ e. p (eqb-true a b e)) (λ e. q (eqb-false a b e))
 
-pick-if : (t : Bool) (x y z : ℕ) → (t ≡ true → x ≡ z) → (t ≡ false → y ≡ z) → pick t x y ≡ z
+pub pick-if : (t : Bool) (x y z : ℕ) → (t ≡ true → x ≡ z) → (t ≡ false → y ≡ z) → pick t x y ≡ z
 pick-if true x y z p q = p refl
 pick-if false x y z p q = q refl
 

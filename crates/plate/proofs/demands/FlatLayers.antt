@@ -3,7 +3,7 @@ use mathlib.Core.Path.{_≡_, ap, _∙_}
 use mathlib.Core.List.{List}
 use Prim.Native.Nat.{ℕ, zero, suc, _+_, _*_, _-_, _/_, _%_, _≤_, _<_}
 use native.Mathlib.Omega.{arith}
-use native.Mathlib.Nat.{div-add-mod'}
+use native.Mathlib.Nat.{mul-le-mul-right, div-add-mod'}
 use lib.Arith.{digits-div, digits-mod}
 use Rattle.kernels.specs.Fixed.{unit, matteUnit, valueTop}
 use Rattle.kernels.specs.Sum.{sum, Row, dist}
@@ -11,7 +11,7 @@ use Rattle.kernels.specs.Shape.{reachOf}
 use Rattle.kernels.specs.Tap.{Taps, squareSum}
 use Rattle.kernels.specs.Rounding.{shownValue, shownMatte}
 use Rattle.kernels.proofs.numbers.Choices.{by-lt}
-use Rattle.kernels.proofs.numbers.Nearest.{nearest-at, value-some}
+use Rattle.kernels.proofs.numbers.Nearest.{nearest-at, even-once, value-to-even}
 use Rattle.kernels.proofs.sums.FiniteSums.{sum-ext, sum-ext-lt, sum-add, sum-mul, sum-zero, sum-none, sum-parts, sum-between}
 use Rattle.kernels.proofs.taps.Areas.{shapes-whole, weight-far-x, weight-far-y}
 use Rattle.plate.specs.Layout.{Size, places}
@@ -139,8 +139,12 @@ module _ (z : Size) (grid : List Pixel) (p : Pixel) (i : ℕ) (flat : FlatAt z g
 -- a pixel's value and opacity, from its whole sums
 value-whole : (v a : ℕ) → v ≤ valueTop → 0 < a → shownValue (v * a * unit) (a * unit) ≡ v
 value-whole v a top some =
-    value-some (v * a * unit) (a * unit) (omega arith)
-    ∙ rw (nearest-at (v * a * unit) (a * unit) v (a * unit) (omega arith) (omega arith)) (omega arith)
+    let light = v * a * unit in
+    let matte = a * unit in
+    let below : 2 * light < (2 * valueTop + 1) * matte = omega (arith, mul-le-mul-right matte top) in
+    even-once light matte (shownValue light matte) v (omega arith)
+    (value-to-even light matte (omega arith) below)
+    (record { near = omega arith; even = omega arith })
 
 matte-whole : (a : ℕ) → a < 256 → shownMatte (a * unit) ≡ a
 unfolding shownMatte

@@ -7,7 +7,7 @@ use lib.Dec.{lit<}
 use Rattle.kernels.specs.Choice.{within, same}
 use Rattle.kernels.specs.Sum.{sum}
 use Rattle.kernels.specs.Tap.{tap, area, shareFor, restFor, weight}
-use Rattle.kernels.specs.Rounding.{nearest, shownValue, shownMatte}
+use Rattle.kernels.specs.Rounding.{nearest, nearestEven, shownValue, shownMatte}
 use Rattle.plate.specs.Layout.{Size}
 use Rattle.plate.specs.Refusal.{Accepted, refuseIf, sizesCheck, lentCheck, placeCheck, shapeCheck, radiusCheck, askCheck, viewsCheck, openCheck}
 use Rattle.plate.specs.Lent.{Lent, lent, sizedAs, Views, views}
@@ -55,7 +55,7 @@ runReports =
     ∷ []
 
 pub book-run : bookReports (openBook threeByOne 64) run ≡ runReports
-unfolding bookReports bookStep bookPut bookPutBy bookUndo bookUndoOf bookShow bookShowBy askCheck placeCheck shapeCheck radiusCheck refuseIf viewsCheck plainValues plainMattes plainSum listTo weight shareFor restFor area tap sum within same shownValue shownMatte nearest
+unfolding bookReports bookStep bookPut bookPutBy bookUndo bookUndoOf bookShow bookShowBy askCheck placeCheck shapeCheck radiusCheck refuseIf viewsCheck plainValues plainMattes plainSum listTo weight shareFor restFor area tap sum within same shownValue shownMatte nearest nearestEven
 book-run = refl
 
 open-accepted : openCheck threeByOne (sizedAs buffers) ≡ Accepted

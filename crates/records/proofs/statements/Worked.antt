@@ -6,7 +6,7 @@ use lib.Dec.{T, ltb, lit<}
 use Rattle.kernels.specs.Choice.{within, same}
 use Rattle.kernels.specs.Sum.{sum}
 use Rattle.kernels.specs.Tap.{tap, area, shareFor, restFor, weight}
-use Rattle.kernels.specs.Rounding.{nearest, shownValue, shownMatte}
+use Rattle.kernels.specs.Rounding.{nearest, nearestEven, shownValue, shownMatte}
 use Rattle.plate.specs.Refusal.{refuseIf, sizesCheck, placeCheck, shapeCheck, radiusCheck, askCheck}
 use Rattle.plate.specs.Calls.{listTo}
 use Rattle.plate.specs.Plain.{plainSum, plainValues, plainMattes}
@@ -41,7 +41,7 @@ printed =
     []
 
 pub worked-text : paperText (codes input) ≡ printed
-unfolding paperText textFrom act opens itemsOf itemsBy recordOf sizesCheck refuseIf bookPut bookPutBy bookUndo bookUndoOf bookShowBy askCheck placeCheck shapeCheck radiusCheck reportText answerText pictureText showText headLine rowsText rowText cellText doneLine decimal digitsBy plainValues plainMattes plainSum listTo weight shareFor restFor area tap sum within same shownValue shownMatte nearest
+unfolding paperText textFrom act opens itemsOf itemsBy recordOf sizesCheck refuseIf bookPut bookPutBy bookUndo bookUndoOf bookShowBy askCheck placeCheck shapeCheck radiusCheck reportText answerText pictureText showText headLine rowsText rowText cellText doneLine decimal digitsBy plainValues plainMattes plainSum listTo weight shareFor restFor area tap sum within same shownValue shownMatte nearest nearestEven
 worked-text = refl
 
 -- so the machine writes it too

@@ -1,4 +1,4 @@
--- `rounded` gives the nearest, and the branch its minimum with the top.
+-- `rounded_even` gives the nearest, and the branch its minimum with the top.
 use mathlib.Core.Path.{sym}
 use native.Mathlib.Omega.{arith}
 use Rattle.kernels.proofs.numbers.Nearest.{value-none, value-some}
@@ -9,8 +9,8 @@ use Rattle.kernels.proofs.rounding.shown_value.Tie as tie
 returns : tie.Need-returns
 returns c = sym (value-none _ _ (c .if1 .taken))
 
-rounded-requires : tie.Need-rounded-requires
-rounded-requires c κs = search needs
+rounded-even-requires : tie.Need-rounded-even-requires
+rounded-even-requires c κs = search needs
 
 cast-if2 : tie.Need-cast-if2
 cast-if2 c = search needs
@@ -19,10 +19,10 @@ cast-result : tie.Need-cast-result
 cast-result c = search needs
 
 returns-2 : tie.Need-returns-2
-returns-2 c = rw (value-some _ _ (c .before .before .if1 .left)) (omega (arith, c .before .rounded .ensures))
+returns-2 c = rw (value-some _ _ (c .before .before .if1 .left)) (omega (arith, c .before .rounded-even .ensures))
 
 returns-3 : tie.Need-returns-3
-returns-3 c = rw (value-some _ _ (c .before .before .if1 .left)) (omega (arith, c .before .rounded .ensures))
+returns-3 c = rw (value-some _ _ (c .before .before .if1 .left)) (omega (arith, c .before .rounded-even .ensures))
 
 pub shown-value-spec : {M : Type 1} → statement M
-shown-value-spec = tie.close (tie.spec returns rounded-requires cast-if2 cast-result returns-2 returns-3)
+shown-value-spec = tie.close (tie.spec returns rounded-even-requires cast-if2 cast-result returns-2 returns-3)
