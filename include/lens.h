@@ -81,9 +81,9 @@ lens_answer lens_undo(lens_state state,
                       uint64_t *log, size_t log_len);
 
 /* Replaces every pixel, with one shape for all and each radius by the lens from the
- * pixel's depth, in 0.1 mm, 0 being infinity and every other one above the focal length;
- * a radius too great is made the greatest that shape and R allow. Clears the log. Refuses
- * 1 to 3, 5, 6, 11, 12, 17. */
+ * pixel's depth, in 0.1 mm, 0 being infinity and every other one above the focal length.
+ * A radius is to the nearest, a half upwards, and one too great is made the greatest that
+ * shape and R allow. Clears the log. Refuses 1 to 3, 5, 6, 11, 12, 17. */
 lens_answer lens_fill(lens_state state, lens_lens lens, uint8_t shape,
                       const uint16_t *values, size_t values_len,
                       const uint8_t *opacities, size_t opacities_len,

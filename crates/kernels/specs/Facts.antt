@@ -123,15 +123,15 @@ pub record ToEven (a b v : ℕ) : Type 0 where
   pub near : 2 * dist (v * b) a ≤ b
   pub even : 2 * dist (v * b) a ≡ b → v % 2 ≡ 0
 
--- one number keeps to it, and no other
+-- no two numbers keep to it for one a and b
 abbrev pub EvenOnce : Type 0
 EvenOnce = (a b v w : ℕ) → 0 < b → ToEven a b v → ToEven a b w → v ≡ w
 
--- the shown value does, where light is below 4,095 and a half times matte
+-- the shown value keeps to it where light is below 4,095 and a half times matte
 abbrev pub ValueFact : Type 0
 ValueFact =
     (light matte : ℕ) → 0 < matte → 2 * light < (2 * valueTop + 1) * matte → ToEven light matte (shownValue light matte)
 
--- "at most 4,095": from there on it is that
+-- "at most 4,095": from there on it is 4,095
 abbrev pub TopFact : Type 0
 TopFact = (light matte : ℕ) → 0 < matte → (2 * valueTop + 1) * matte ≤ 2 * light → shownValue light matte ≡ valueTop

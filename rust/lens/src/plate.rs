@@ -160,7 +160,8 @@ impl Plate {
     }
 
     /// Replaces every pixel, with one shape for all and each radius by the lens from its
-    /// depth, at most what shape and reach allow. Empties the undo log.
+    /// depth, to the nearest, a half upwards, at most what shape and reach allow. Empties the
+    /// undo log.
     ///
     /// # Errors
     /// [`Refusal::Lengths`] if a part of the layer has another length than width × height,
