@@ -2,7 +2,7 @@
 use mathlib.Core.Path.{_≡_, refl, sym, ap, _∙_}
 use Prim.Native.Nat.{ℕ, zero, suc, _+_, _*_, _-_, _/_, _%_, _<_, _≤_, min}
 use native.Mathlib.Omega.{arith}
-use native.Mathlib.Nat.{div-add-mod', mod-lt, mul-le-mul-right}
+use native.Mathlib.Nat.{div-add-mod', mod-lt, mul-le-mul-left, mul-le-mul-right}
 use borrow.Author.Tests.{eqb-true, eqb-false}
 use lib.Arith.{digits-div}
 use lib.Dec.{eqb}
@@ -10,6 +10,10 @@ use Rattle.kernels.specs.Fixed.{valueTop}
 use Rattle.kernels.specs.Rounding.{nearest, evenFrom, nearestEven, shownValue}
 use Rattle.kernels.specs.Facts.{ToEven, EvenOnce, ValueFact, TopFact}
 use Rattle.kernels.proofs.numbers.Choices.{pick-if, by-lt}
+
+-- a quotient by 2 or more is at most half, so one more of it is still a number of 64 bits
+pub quotient-half : (a b : ℕ) → 2 ≤ b → 2 * (a / b) ≤ a
+quotient-half a b two = omega (arith, div-add-mod' a b, mul-le-mul-left (a / b) two)
 
 -- A HALF UPWARDS
 -- q is nearest to a / b where 2 q b reaches 2 a + b but for less than 2 b

@@ -1,9 +1,9 @@
 -- The quotient, or one more where the rest is a half or more, is the nearest; and a quotient that is raised is no more than half of `a`.
 use mathlib.Core.Path.{sym}
-use Prim.Native.Nat.{_≤_, _/_}
+use Prim.Native.Nat.{_≤_}
 use native.Mathlib.Omega.{arith}
-use native.Mathlib.Nat.{mod-lt, div-add-mod', mul-le-mul-left}
-use Rattle.kernels.proofs.numbers.Nearest.{nearest-down, nearest-up}
+use native.Mathlib.Nat.{mod-lt}
+use Rattle.kernels.proofs.numbers.Nearest.{quotient-half, nearest-down, nearest-up}
 use borrow.Author.Needs.{needs}
 use Rattle.kernels.proofs.rounding.rounded.Statement.{statement}
 use Rattle.kernels.proofs.rounding.rounded.Tie as tie
@@ -25,7 +25,7 @@ add-result c =
     let a = c .before .args .a in
     let b = c .before .args .b in
     let two : 2 ≤ b = omega (arith, mod-lt a (c .before .pre)) in
-    omega (arith, div-add-mod' a b, mul-le-mul-left (a / b) two)
+    omega (arith, quotient-half a b two)
 
 returns-2 : tie.Need-returns-2
 returns-2 c = sym (nearest-up (c .before .args .a) (c .before .args .b) (c .before .pre) (omega arith))

@@ -1,10 +1,10 @@
 -- The quotient, or one more where the rest is above a half, or a half above an odd quotient, is the nearest with a half to even;
 -- and a quotient that is raised is no more than half of `light`.
 use mathlib.Core.Path.{sym}
-use Prim.Native.Nat.{_≤_, _/_}
+use Prim.Native.Nat.{_≤_}
 use native.Mathlib.Omega.{arith}
-use native.Mathlib.Nat.{mod-lt, div-add-mod', mul-le-mul-left}
-use Rattle.kernels.proofs.numbers.Nearest.{even-down, even-up}
+use native.Mathlib.Nat.{mod-lt}
+use Rattle.kernels.proofs.numbers.Nearest.{quotient-half, even-down, even-up}
 use borrow.Author.Needs.{needs}
 use Rattle.kernels.proofs.rounding.rounded_even.Statement.{statement}
 use Rattle.kernels.proofs.rounding.rounded_even.Tie as tie
@@ -26,7 +26,7 @@ add-result c =
     let light = c .before .args .light in
     let matte = c .before .args .matte in
     let two : 2 ≤ matte = omega (arith, mod-lt light (c .before .pre)) in
-    omega (arith, div-add-mod' light matte, mul-le-mul-left (light / matte) two)
+    omega (arith, quotient-half light matte two)
 
 returns : tie.Need-returns
 returns c = sym (even-up (c .before .args .light) (c .before .args .matte) (c .before .pre) (omega arith))
