@@ -14,6 +14,7 @@
  *     log         0 to 65,535      the undo log, one entry for each put that can be undone
  *     scratch     3 x P            any contents; left all zero by an accepted show
  *     values, opacities, depths, mattes    W x H each, row by row
+ *     sums        2 x W x H        finished sums: all light by place, then all matte
  *
  * A pixel has a value 0 to 4,095, an opacity 0 to 255, a shape and a radius. The radius is
  * at most the shape's top, and its kernel must not reach farther than R:
@@ -55,8 +56,8 @@ typedef struct { size_t width, height, reach, count; } lens_state;
  * 0.1 mm; the pitch of a pixel, 1 to 1,000, in 0.1 um. */
 typedef struct { uint32_t opening, focal, focus, pitch; } lens_lens;
 
-/* marks: how many marks a put or an undo moved, 16 to 40, those of both kernels; 0 for
- * other calls and for refused ones.
+/* marks: how many marks a put or an undo moved, in either form, 16 to 40, those of both
+ * kernels; 0 for other calls and for refused ones.
  * state: the state for the next call; unchanged by a refused one, all zero from a refused
  * open. */
 typedef struct { uint32_t number, marks; lens_state state; } lens_answer;
@@ -101,6 +102,46 @@ lens_answer lens_show(lens_state state,
                       uint64_t *scratch, size_t scratch_len,
                       uint16_t *values, size_t values_len,
                       uint8_t *mattes, size_t mattes_len);
+
+/* Refresh under the brush: show, put and undo once more, for a painter who looks at the
+ * pictures after every put. The caller keeps sums and pictures from one of these calls to
+ * the next.
+ *
+ * For kept sums and pictures that are those of the plate before the call, the mended ones
+ * are those of a full show after it. Open, lens_put, lens_undo and lens_fill do not mend:
+ * after them show anew. */
+
+/* lens_show that also writes the finished sums that the pictures are rounded from,
+ * whatever sums held. Refuses 1, 2. */
+lens_answer lens_show_kept(lens_state state,
+                           const uint64_t *planes, size_t planes_len,
+                           uint64_t *scratch, size_t scratch_len,
+                           uint16_t *values, size_t values_len,
+                           uint8_t *mattes, size_t mattes_len,
+                           uint64_t *sums, size_t sums_len);
+
+/* lens_put that also mends the cells where the old or the new kernel has a tap, whatever
+ * the opacity: of sums, by taking off what the old pixel gave the cell and adding what the
+ * new one gives, wrapped; of values and mattes, by rounding that. No other cell of sums,
+ * values and mattes is written. Any contents are safe. Refuses 1 to 8, 10. */
+lens_answer lens_put_kept(lens_state state, size_t x, size_t y,
+                          uint16_t value, uint8_t opacity, uint8_t shape, uint8_t radius,
+                          uint64_t *planes, size_t planes_len,
+                          uint64_t *pixels, size_t pixels_len,
+                          uint64_t *log, size_t log_len,
+                          uint64_t *sums, size_t sums_len,
+                          uint16_t *values, size_t values_len,
+                          uint8_t *mattes, size_t mattes_len);
+
+/* lens_undo that also mends, in the same way: the pixel that stands there is the old one,
+ * the one that comes back the new one. Refuses 1 to 3, 9, 10. */
+lens_answer lens_undo_kept(lens_state state,
+                           uint64_t *planes, size_t planes_len,
+                           uint64_t *pixels, size_t pixels_len,
+                           uint64_t *log, size_t log_len,
+                           uint64_t *sums, size_t sums_len,
+                           uint16_t *values, size_t values_len,
+                           uint8_t *mattes, size_t mattes_len);
 
 #ifdef __cplusplus
 }

@@ -1,7 +1,9 @@
--- What a kernel is made of: the numbers of its shape, its taps, their sum, and its share in the table.
+-- What a kernel is made of: the numbers of its shape, its taps, their sum, its share in the table, and its rows.
 pub mod ShapeNumbers
 pub mod TapForms
+pub mod BoxTaps
 pub mod Columns
 pub mod Areas
 pub mod ValueLists
 pub mod Shares
+pub mod Bands

@@ -1,4 +1,5 @@
 // The kernels of the lens: shapes, shares, marks, the radius from depth, and rounding. Knows nothing of plates.
+pub mod band;
 pub mod fixed;
 pub mod lens;
 pub mod mark;
@@ -6,6 +7,7 @@ pub mod rounding;
 pub mod shape;
 pub mod share;
 
+pub use band::Band;
 pub use lens::Lens;
 pub use lens::Radius;
 pub use mark::Boxes;

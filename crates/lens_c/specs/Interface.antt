@@ -1,11 +1,14 @@
 -- The C interface: the plate's calls with C's structs for state, lens and answer.
+use mathlib.Core.List.{List}
+use Prim.Native.Nat.{ℕ}
 use Rattle.kernels.specs.declared.lens.Lens.{Lens}
 use Rattle.plate.specs.declared.state.State.{State}
 use Rattle.plate.specs.declared.state.Answer.{Answer}
 use Rattle.plate.specs.Refusal.{outcomeNumber}
 use Rattle.plate.specs.Layout.{sizeFrom}
-use Rattle.plate.specs.Lent.{stateOf, Lent, Views}
+use Rattle.plate.specs.Lent.{stateOf, Lent, Views, Canvas}
 use Rattle.plate.specs.Calls.{Left, Shown}
+use Rattle.plate.specs.Kept.{Refreshed, ShownKept}
 pub use Rattle.lens_c.specs.declared.LensState.{LensState}
 pub use Rattle.lens_c.specs.declared.LensLens.{LensLens}
 pub use Rattle.lens_c.specs.declared.LensAnswer.{LensAnswer}
@@ -44,3 +47,24 @@ showsOut a v = record { answer = a; seen = v }
 
 abbrev pub shownOut : Shown → ShownOut
 shownOut s = showsOut (answerOut (s .answer)) (s .seen)
+
+-- and of the second forms
+pub record RefreshedOut : Type 0 where
+  pub call : LeftOut
+  pub canvas : Canvas
+
+abbrev pub leavesKeptOut : LensAnswer → Lent → Canvas → RefreshedOut
+leavesKeptOut a l k = record { call = leavesOut a l; canvas = k }
+
+abbrev pub refreshedOut : Refreshed → RefreshedOut
+refreshedOut r = record { call = leftOut (r .call); canvas = r .canvas }
+
+pub record ShownKeptOut : Type 0 where
+  pub call : ShownOut
+  pub sums : List ℕ
+
+abbrev pub showsKeptOut : LensAnswer → Views → List ℕ → ShownKeptOut
+showsKeptOut a v sums = record { call = showsOut a v; sums = sums }
+
+abbrev pub shownKeptOut : ShownKept → ShownKeptOut
+shownKeptOut s = record { call = shownOut (s .call); sums = s .sums }

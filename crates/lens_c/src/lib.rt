@@ -1,9 +1,10 @@
 // The C interface of the plate: the same calls in the same order, a slice as pointer then length. include/lens.h declares it.
 ghost use mathlib.Core.Path.{_≡_};
 ghost use Rattle.plate.specs.Layout.{sizeFrom};
-ghost use Rattle.plate.specs.Lent.{ask, inputs, lentAtEntry, lentAtExit, viewsAtEntry, viewsAtExit};
+ghost use Rattle.plate.specs.Lent.{ask, inputs, lentAtEntry, lentAtExit, viewsAtEntry, viewsAtExit, canvasAtEntry, canvasAtExit};
 ghost use Rattle.plate.specs.Calls.{openCall, putCall, undoCall, fillCall, showCall};
-ghost use Rattle.lens_c.specs.Interface.{stateIn, lensIn, answerOut, leftOut, shownOut, leavesOut, showsOut};
+ghost use Rattle.plate.specs.Kept.{putKeptCall, undoKeptCall, showKeptCall};
+ghost use Rattle.lens_c.specs.Interface.{stateIn, lensIn, answerOut, leftOut, shownOut, leavesOut, showsOut, refreshedOut, leavesKeptOut, shownKeptOut, showsKeptOut};
 use kernels::Lens;
 use plate::Answer;
 use plate::Size;
@@ -161,4 +162,68 @@ pub extern "C" fn lens_show(
     ensures { λ r. ⌜ showsOut r (viewsAtExit scratch values mattes) ≡ shownOut (showCall (stateIn state) (now (planes .entry)) (viewsAtEntry scratch values mattes)) ⌝ }
 {
     answer_out(plate::show::show(state_in(state), planes, scratch, values, mattes))
+}
+
+#[no_mangle]
+pub extern "C" fn lens_show_kept(
+    state: LensState,
+    planes: &[u64],
+    scratch: &mut [u64],
+    values: &mut [u16],
+    mattes: &mut [u8],
+    sums: &mut [u64],
+) -> LensAnswer
+    ensures { λ r. ⌜ showsKeptOut r (viewsAtExit scratch values mattes) (now (sums .exit)) ≡ shownKeptOut (showKeptCall (stateIn state) (now (planes .entry)) (viewsAtEntry scratch values mattes) (now (sums .entry))) ⌝ }
+{
+    answer_out(plate::kept::show_kept(state_in(state), planes, scratch, values, mattes, sums))
+}
+
+#[no_mangle]
+pub extern "C" fn lens_put_kept(
+    state: LensState,
+    x: usize,
+    y: usize,
+    value: u16,
+    opacity: u8,
+    shape: u8,
+    radius: u8,
+    planes: &mut [u64],
+    pixels: &mut [u64],
+    log: &mut [u64],
+    sums: &mut [u64],
+    values: &mut [u16],
+    mattes: &mut [u8],
+) -> LensAnswer
+    ensures { λ r. ⌜ leavesKeptOut r (lentAtExit planes pixels log) (canvasAtExit sums values mattes) ≡ refreshedOut (putKeptCall (stateIn state) (ask x y value opacity shape radius) (lentAtEntry planes pixels log) (canvasAtEntry sums values mattes)) ⌝ }
+{
+    answer_out(plate::kept::put_kept(
+        state_in(state),
+        x,
+        y,
+        value,
+        opacity,
+        shape,
+        radius,
+        planes,
+        pixels,
+        log,
+        sums,
+        values,
+        mattes,
+    ))
+}
+
+#[no_mangle]
+pub extern "C" fn lens_undo_kept(
+    state: LensState,
+    planes: &mut [u64],
+    pixels: &mut [u64],
+    log: &mut [u64],
+    sums: &mut [u64],
+    values: &mut [u16],
+    mattes: &mut [u8],
+) -> LensAnswer
+    ensures { λ r. ⌜ leavesKeptOut r (lentAtExit planes pixels log) (canvasAtExit sums values mattes) ≡ refreshedOut (undoKeptCall (stateIn state) (lentAtEntry planes pixels log) (canvasAtEntry sums values mattes)) ⌝ }
+{
+    answer_out(plate::kept::undo_kept(state_in(state), planes, pixels, log, sums, values, mattes))
 }

@@ -3,6 +3,7 @@ pub mod checks
 pub mod words
 pub mod laying
 pub mod changing
+pub mod mending
 pub mod filling
 pub mod showing
 pub mod demands

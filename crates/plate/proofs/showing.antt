@@ -1,6 +1,6 @@
 -- Show's sums, row by row, and the pictures that they give: how a loop writes rows of cells, where a picture's sums lie, one row
 -- of them, the lines of a slope from row to row, all sums one row further, the rising lines before the first row, both pictures
--- side by side, and the image.
+-- side by side, the image, and its sums where they are kept.
 pub mod Writes
 pub mod Starts
 pub mod RowSums
@@ -9,3 +9,4 @@ pub mod NextRow
 pub mod RisingStart
 pub mod BothPictures
 pub mod Image
+pub mod Keeping

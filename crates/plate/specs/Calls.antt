@@ -117,6 +117,13 @@ stored z planes p d x y =
 unfoldable pub sumAt : Size → List ℕ → ℕ → ℕ → ℕ
 sumAt z planes p i = finish (stored z planes p) (columnOf z i) (rowOf z i) % 2 ^ 64
 
+-- the pictures of the finished sums
+abbrev pub valuesOf : Size → List ℕ → List ℕ
+valuesOf z planes = listTo (λ i. shownValue (sumAt z planes 0 i) (sumAt z planes planesEach i)) (places z)
+
+abbrev pub mattesOf : Size → List ℕ → List ℕ
+mattesOf z planes = listTo (λ i. shownMatte (sumAt z planes planesEach i)) (places z)
+
 -- what a show answers, and what it leaves of scratch and the pictures
 pub record Shown : Type 0 where
   pub answer : Answer
@@ -132,11 +139,7 @@ shown a scratch values mattes = shows a (views scratch values mattes)
 unfoldable pub showBy : Outcome → State → List ℕ → Views → Shown
 showBy (Refused f) s planes v = shows (answerOf (Refused f) 0 s) v
 showBy Accepted s planes v =
-    let z = s .size in
-    shown (answerOf Accepted 0 s)
-    (zeros (length (v .scratch)))
-    (listTo (λ i. shownValue (sumAt z planes 0 i) (sumAt z planes planesEach i)) (places z))
-    (listTo (λ i. shownMatte (sumAt z planes planesEach i)) (places z))
+    shown (answerOf Accepted 0 s) (zeros (length (v .scratch))) (valuesOf (s .size) planes) (mattesOf (s .size) planes)
 
 unfoldable pub showCall : State → List ℕ → Views → Shown
 showCall s planes v =

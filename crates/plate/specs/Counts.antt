@@ -7,7 +7,7 @@ use Rattle.plate.specs.Lent.{Lent, sizedAs}
 use Rattle.plate.specs.Refusal.{Accepted, openCheck}
 use Rattle.plate.specs.Calls.{openCall}
 use Rattle.plate.specs.Notebook.{Report}
-use Rattle.plate.specs.Lists.{Call, putIt, undoIt, fillIt, showIt, leftBy, plateReports}
+use Rattle.plate.specs.Lists.{Call, putIt, undoIt, fillIt, showIt, putKeptIt, undoKeptIt, showKeptIt, leftBy, plateReports}
 
 -- "a put or an undo reports 16 to 40", if it is accepted, and none if it is refused
 pub record Few (r : Report) : Type 0 where
@@ -20,6 +20,9 @@ CountOf (putIt x y v a s r) t = Few t
 CountOf undoIt t = Few t
 CountOf (fillIt o s vs bs zs) t = t .marks ≡ 0
 CountOf (showIt v) t = t .marks ≡ 0
+CountOf (putKeptIt x y v a s r k) t = Few t
+CountOf (undoKeptIt k) t = Few t
+CountOf (showKeptIt v sums) t = t .marks ≡ 0
 
 -- each call of a list has its report, with such a count
 unfoldable pub Counted : List Call → List Report → Type 0

@@ -2,9 +2,13 @@
 use mathlib.Core.List.{List}
 use Prim.Native.Nat.{ℕ}
 use Rattle.kernels.specs.Shape.{countOf}
-use Rattle.kernels.specs.Tap.{weight}
+use Rattle.kernels.specs.Tap.{tap, weight}
 use Rattle.kernels.specs.Mark.{Mark, marks}
 use Rattle.plate.specs.Word.{Pixel}
+
+-- the tap of its kernel at abs (dx), abs (dy)
+abbrev pub tapOf : Pixel → ℕ → ℕ → ℕ
+tapOf p dx dy = tap (p .shape) (p .radius) dx dy
 
 -- what a pixel of opacity 1 adds to the matte sum of a cell at abs (dx), abs (dy)
 abbrev pub weightOf : Pixel → ℕ → ℕ → ℕ

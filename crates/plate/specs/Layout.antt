@@ -32,3 +32,10 @@ columnOf z i = i % z .width + z .reach + margin
 
 abbrev pub rowOf : Size → ℕ → ℕ
 rowOf z i = i / z .width + z .reach + margin
+
+-- "a buffer of 2 × W × H sums, all light ones by place, then all matte ones"
+abbrev pub sumsInAll : Size → ℕ
+sumsInAll z = 2 * places z
+
+abbrev pub matteFrom : Size → ℕ
+matteFrom z = places z

@@ -51,6 +51,15 @@ pub record Views : Type 0 where
 abbrev pub views : List ℕ → List ℕ → List ℕ → Views
 views scratch values mattes = record { scratch = scratch; values = values; mattes = mattes }
 
+-- what is kept of a plate between calls: the buffer of sums, and "the two pictures too"
+pub record Canvas : Type 0 where
+  pub sums : List ℕ
+  pub values : List ℕ
+  pub mattes : List ℕ
+
+abbrev pub canvas : List ℕ → List ℕ → List ℕ → Canvas
+canvas sums values mattes = record { sums = sums; values = values; mattes = mattes }
+
 -- AT A CALL'S START AND END
 -- a buffer that a call may write to, as it is when the call starts and when it ends
 abbrev pub Borrowed : Type 0
@@ -67,3 +76,9 @@ viewsAtEntry scratch values mattes = views (now (scratch .entry)) (now (values .
 
 abbrev pub viewsAtExit : Borrowed → Borrowed → Borrowed → Views
 viewsAtExit scratch values mattes = views (now (scratch .exit)) (now (values .exit)) (now (mattes .exit))
+
+abbrev pub canvasAtEntry : Borrowed → Borrowed → Borrowed → Canvas
+canvasAtEntry sums values mattes = canvas (now (sums .entry)) (now (values .entry)) (now (mattes .entry))
+
+abbrev pub canvasAtExit : Borrowed → Borrowed → Borrowed → Canvas
+canvasAtExit sums values mattes = canvas (now (sums .exit)) (now (values .exit)) (now (mattes .exit))

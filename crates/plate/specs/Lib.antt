@@ -7,10 +7,12 @@ pub mod Refusal
 pub mod Change
 pub mod Marks
 pub mod Calls
-pub mod Table
 pub mod Plain
+pub mod Kept
+pub mod Table
 pub mod Notebook
 pub mod Lists
 pub mod Counts
 pub mod Flat
+pub mod Painting
 pub mod code

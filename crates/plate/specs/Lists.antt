@@ -7,11 +7,12 @@ use Rattle.kernels.specs.declared.lens.Lens.{Lens as LensOf}
 use Rattle.plate.specs.Fixed.{planesInAll}
 use Rattle.plate.specs.Layout.{Size, padded}
 use Rattle.plate.specs.Word.{wordOf}
-use Rattle.plate.specs.Lent.{State, Lent, sizedAs, ask, inputs, Views}
+use Rattle.plate.specs.Lent.{State, Lent, sizedAs, ask, inputs, Views, Canvas}
 use Rattle.plate.specs.Refusal.{Outcome, Accepted, Refused, outcomeNumber, openCheck, viewsCheck}
 use Rattle.plate.specs.Calls.{Left, Shown, shown, answerOf, zeros, openCall, putCall, undoCall, fillCall, showCall}
+use Rattle.plate.specs.Kept.{putKeptCall, undoKeptCall, showKeptCall}
 use Rattle.plate.specs.Plain.{plainValues, plainMattes, gridCell}
-use Rattle.plate.specs.Notebook.{Book, openBook, both, Report, plain, Turn, bookPut, bookUndo, bookFill, bookShow, logOf}
+use Rattle.plate.specs.Notebook.{Book, openBook, both, Report, plain, Turn, bookPut, bookUndo, bookFill, bookShow, bookPutKept, bookUndoKept, bookShowKept, logOf}
 
 -- "Opacity and radius come as bytes."
 pub record Byte : Type 0 where
@@ -27,6 +28,10 @@ pub data Call : Type 0 where
   undoIt : Call
   fillIt : LensOf → (shape : ℕ) → (values : List ℕ) → (opacities : List Byte) → (depths : List ℕ) → Call
   showIt : Views → Call
+  -- "Lists of demand 3 may use either form of a call"
+  putKeptIt : (x y value : ℕ) → (opacity : Byte) → (shape : ℕ) → (radius : Byte) → Canvas → Call
+  undoKeptIt : Canvas → Call
+  showKeptIt : Views → (sums : List ℕ) → Call
 
 -- "every call gets the plate's own planes, pixels and log, .. whole and as the call before left them, and the state that the
 -- call before handed back"
@@ -61,12 +66,18 @@ plateStep p (putIt x y v a s r) = stepOf (putCall (p .state) (ask x y v (a .code
 plateStep p undoIt = stepOf (undoCall (p .state) (p .kept))
 plateStep p (fillIt o s vs bs zs) = stepOf (fillCall (p .state) o s (inputs vs (codes bs) zs) (p .kept))
 plateStep p (showIt v) = shownTo p (showCall (p .state) (p .kept .planes) v)
+plateStep p (putKeptIt x y v a s r k) = stepOf (putKeptCall (p .state) (ask x y v (a .code) s (r .code)) (p .kept) k .call)
+plateStep p (undoKeptIt k) = stepOf (undoKeptCall (p .state) (p .kept) k .call)
+plateStep p (showKeptIt v sums) = shownTo p (showKeptCall (p .state) (p .kept .planes) v sums .call)
 
 unfoldable pub bookStep : Book → Call → Turn
 bookStep b (putIt x y v a s r) = bookPut b (ask x y v (a .code) s (r .code))
 bookStep b undoIt = bookUndo b
 bookStep b (fillIt o s vs bs zs) = bookFill b o s (inputs vs (codes bs) zs)
 bookStep b (showIt v) = bookShow b v
+bookStep b (putKeptIt x y v a s r k) = bookPutKept b (ask x y v (a .code) s (r .code)) k
+bookStep b (undoKeptIt k) = bookUndoKept b k
+bookStep b (showKeptIt v sums) = bookShowKept b v sums
 
 -- the reports of a list of calls, and what it leaves
 unfoldable pub plateReports : Plate → List Call → List Report

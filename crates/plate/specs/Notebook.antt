@@ -7,8 +7,8 @@ use Rattle.kernels.specs.declared.lens.Lens.{Lens as LensOf}
 use Rattle.plate.specs.Layout.{Size, places}
 use Rattle.plate.specs.Word.{Pixel, empty, Entry, entryOf}
 use Rattle.plate.specs.Kernel.{markCount}
-use Rattle.plate.specs.Refusal.{Outcome, Accepted, Refused, LogEmpty, outcomeNumber, askCheck, inputsCheck, layerCheck, viewsCheck}
-use Rattle.plate.specs.Lent.{Ask, Inputs, Views}
+use Rattle.plate.specs.Refusal.{Outcome, Accepted, Refused, LogEmpty, outcomeNumber, askCheck, inputsCheck, layerCheck, viewsCheck, sumsCheck, canvasCheck}
+use Rattle.plate.specs.Lent.{Ask, Inputs, Views, Canvas}
 use Rattle.plate.specs.Change.{askedPlace, askedPixel, knownShape}
 use Rattle.plate.specs.Calls.{filled, listTo, zeros}
 use Rattle.plate.specs.Plain.{pixelAt, plainValues, plainMattes}
@@ -97,6 +97,23 @@ bookShowBy Accepted b =
 
 unfoldable pub bookShow : Book → Views → Turn
 bookShow b v = bookShowBy (viewsCheck (b .size) (length (v .scratch)) (length (v .values)) (length (v .mattes))) b
+
+-- THE SECOND FORMS: "there 2 can come from this buffer too", and else they are the first
+unfoldable pub bookKept : Outcome → Book → Turn → Turn
+bookKept (Refused f) b first = turnedDown (Refused f) b
+bookKept Accepted b first = first
+
+abbrev pub canvasWith : Book → Canvas → Outcome
+canvasWith b k = canvasCheck (b .size) (length (k .sums)) (length (k .values)) (length (k .mattes))
+
+unfoldable pub bookPutKept : Book → Ask → Canvas → Turn
+bookPutKept b a k = bookKept (canvasWith b k) b (bookPut b a)
+
+unfoldable pub bookUndoKept : Book → Canvas → Turn
+bookUndoKept b k = bookKept (canvasWith b k) b (bookUndo b)
+
+unfoldable pub bookShowKept : Book → Views → List ℕ → Turn
+bookShowKept b v sums = bookKept (sumsCheck (b .size) (length sums) Accepted) b (bookShow b v)
 
 -- "the log with the pile's pairs as entries, from its bottom, and zeros after them"
 unfoldable pub fromBottom : List Entry → List ℕ

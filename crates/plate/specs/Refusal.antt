@@ -13,7 +13,7 @@ use Rattle.kernels.specs.declared.lens.Lens.{Lens as LensOf}
 use Rattle.kernels.specs.Lens.{lawfulLens}
 use Rattle.kernels.specs.Fixed.{valueTop, depthTop, shapeRefused, lensRefused, depthRefused}
 use Rattle.plate.specs.Fixed.{planesInAll, scratchPlanes, sideTop, placesTop, reachTop, logTop}
-use Rattle.plate.specs.Layout.{Size, padded, places}
+use Rattle.plate.specs.Layout.{Size, padded, places, sumsInAll}
 use Rattle.plate.specs.Lent.{State, Sized, Ask, Inputs}
 pub use Rattle.plate.specs.declared.state.Answer.{Answer}
 pub use Rattle.plate.specs.declared.state.Refusal.{Refusal}
@@ -149,6 +149,15 @@ unfoldable pub viewsCheck : Size → ℕ → ℕ → ℕ → Outcome
 viewsCheck z scratch values mattes =
     lengthCheck scratch (scratchPlanes * padded z) (lengthCheck values (places z) (lengthCheck mattes (places z) Accepted))
 
+-- "A wrong buffer length is 2, as elsewhere": 2 for the buffer of sums
+abbrev pub sumsCheck : Size → ℕ → Outcome → Outcome
+sumsCheck z sums next = lengthCheck sums (sumsInAll z) next
+
+-- and for the two pictures that the second forms of put and undo are lent too
+unfoldable pub canvasCheck : Size → ℕ → ℕ → ℕ → Outcome
+canvasCheck z sums values mattes =
+    sumsCheck z sums (lengthCheck values (places z) (lengthCheck mattes (places z) Accepted))
+
 -- open: 1 2
 unfoldable pub openCheck : Size → Sized → Outcome
 openCheck z n = sizesCheck z (lentCheck z n Accepted)
@@ -180,3 +189,12 @@ fillCheck s o k f n = fillFirst s f n (layerCheck o k f)
 unfoldable pub showCheck : State → ℕ → ℕ → ℕ → ℕ → Outcome
 showCheck s planes scratch values mattes =
     sizesCheck (s .size) (lengthCheck planes (planesInAll * padded (s .size)) (viewsCheck (s .size) scratch values mattes))
+
+-- the second form of show: 1 2, with the buffer of sums
+unfoldable pub showKeptCheck : State → ℕ → ℕ → ℕ → ℕ → ℕ → Outcome
+showKeptCheck s planes scratch values mattes sums =
+    sizesCheck (s .size) (sumsCheck (s .size) sums (showCheck s planes scratch values mattes))
+
+-- what the second forms of put and undo check before what the first forms do: 1 2, with sums and pictures
+unfoldable pub keptCheck : Size → ℕ → ℕ → ℕ → Outcome
+keptCheck z sums values mattes = sizesCheck z (canvasCheck z sums values mattes)

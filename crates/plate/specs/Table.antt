@@ -13,12 +13,13 @@ use Rattle.kernels.specs.Shape.{shapeOf, topUnder}
 use Rattle.kernels.specs.declared.lens.Lens.{Lens as LensOf}
 use Rattle.kernels.specs.Lens.{openingTop, focalTop, focusTop, pitchTop}
 use Rattle.plate.specs.Fixed.{planesInAll, scratchPlanes, sideTop, placesTop, reachTop, logTop, wordBits}
-use Rattle.plate.specs.Layout.{Size, sizeFrom, padded, places}
-use Rattle.plate.specs.Lent.{State, stateOf, Lent, Sized, sizedAs, Ask, Inputs, Views}
+use Rattle.plate.specs.Layout.{Size, sizeFrom, padded, places, sumsInAll}
+use Rattle.plate.specs.Lent.{State, stateOf, Lent, Sized, sizedAs, Ask, Inputs, Views, Canvas}
 use Rattle.plate.specs.Word.{shapeIn, radiusIn}
 use Rattle.plate.specs.Refusal.{Refusal, Sizes, Lengths, LogCount, Place, Value, Shape, Radius, LogFull, LogEmpty, StoredWord, Lens, Depth, DepthInside, Outcome, Accepted, Refused, refusalNumber, openCheck}
 use Rattle.plate.specs.Change.{askedPlace}
 use Rattle.plate.specs.Calls.{Left, refused, Shown, shows, answerOf, openCall, putCall, undoCall, fillCall, showCall}
+use Rattle.plate.specs.Kept.{Refreshed, leavesKept, putKeptCall, undoKeptCall, ShownKept, showsKept, showKeptCall}
 
 -- an answer by rows: the refusal of the first that applies, and accepted where none does
 abbrev pub AnswersBy : List (Row Refusal) → Outcome → Type 0
@@ -59,6 +60,14 @@ ViewsWrong z planes v =
     ⊎ (length (v .scratch) ≢ scratchPlanes * padded z)
     ⊎ (length (v .values) ≢ places z)
     ⊎ (length (v .mattes) ≢ places z)
+
+-- "a buffer of 2 × W × H sums"
+abbrev pub SumsWrong : Size → List ℕ → Type 0
+SumsWrong z sums = length sums ≢ sumsInAll z
+
+-- and with it "the two pictures too"
+unfoldable pub CanvasWrong : Size → Canvas → Type 0
+CanvasWrong z k = SumsWrong z (k .sums) ⊎ (length (k .values) ≢ places z) ⊎ (length (k .mattes) ≢ places z)
 
 -- 3: "log count above log length"
 abbrev pub CountAbove : State → Lent → Type 0
@@ -132,12 +141,12 @@ InsideLens l d = (d ≢ 0) × (d ≤ l .focal)
 abbrev pub openRows : Size → Lent → List (Row Refusal)
 openRows z l = row Sizes (SizesOutside z) ∷ row Lengths (LentWrong z (sizedAs l)) ∷ []
 
--- "For 10, put reads the word at its place"
-abbrev pub putRows : State → Ask → Lent → List (Row Refusal)
-putRows s a l =
+-- a put, by when a length that it is lent is wrong; "For 10, put reads the word at its place"
+abbrev pub putRowsBy : Type 0 → State → Ask → Lent → List (Row Refusal)
+putRowsBy wrong s a l =
     let z = s .size in
     row Sizes (SizesOutside z)
-    ∷ row Lengths (LentWrong z (sizedAs l))
+    ∷ row Lengths wrong
     ∷ row LogCount (CountAbove s l)
     ∷ row Place (PlaceOutside z (a .x) (a .y))
     ∷ row Value (ValueAbove (a .value))
@@ -147,17 +156,30 @@ putRows s a l =
     ∷ row StoredWord (WordBroken (z .reach) (getD (l .pixels) (askedPlace z a) 0))
     ∷ []
 
--- "For 10, .. undo the last entry and the word at that entry's place"
-abbrev pub undoRows : State → Lent → List (Row Refusal)
-undoRows s l =
+abbrev pub putRows : State → Ask → Lent → List (Row Refusal)
+putRows s a l = putRowsBy (LentWrong (s .size) (sizedAs l)) s a l
+
+-- the second form: "2 can come from this buffer too"
+abbrev pub putKeptRows : State → Ask → Lent → Canvas → List (Row Refusal)
+putKeptRows s a l k = putRowsBy (LentWrong (s .size) (sizedAs l) ⊎ CanvasWrong (s .size) k) s a l
+
+-- an undo so; "For 10, .. undo the last entry and the word at that entry's place"
+abbrev pub undoRowsBy : Type 0 → State → Lent → List (Row Refusal)
+undoRowsBy wrong s l =
     let z = s .size in
     let entry = getD (l .log) (s .count - 1) 0 in
     row Sizes (SizesOutside z)
-    ∷ row Lengths (LentWrong z (sizedAs l))
+    ∷ row Lengths wrong
     ∷ row LogCount (CountAbove s l)
     ∷ row LogEmpty (CountNone s)
     ∷ row StoredWord (EntryBroken z entry ⊎ WordBroken (z .reach) (getD (l .pixels) (placeIn entry) 0))
     ∷ []
+
+abbrev pub undoRows : State → Lent → List (Row Refusal)
+undoRows s l = undoRowsBy (LentWrong (s .size) (sizedAs l)) s l
+
+abbrev pub undoKeptRows : State → Lent → Canvas → List (Row Refusal)
+undoKeptRows s l k = undoRowsBy (LentWrong (s .size) (sizedAs l) ⊎ CanvasWrong (s .size) k) s l
 
 abbrev pub fillRows : State → LensOf → ℕ → Inputs → Lent → List (Row Refusal)
 fillRows s o shape f l =
@@ -175,6 +197,10 @@ fillRows s o shape f l =
 abbrev pub showRows : State → List ℕ → Views → List (Row Refusal)
 showRows s planes v = row Sizes (SizesOutside (s .size)) ∷ row Lengths (ViewsWrong (s .size) planes v) ∷ []
 
+abbrev pub showKeptRows : State → List ℕ → Views → List ℕ → List (Row Refusal)
+showKeptRows s planes v sums =
+    row Sizes (SizesOutside (s .size)) ∷ row Lengths (ViewsWrong (s .size) planes v ⊎ SumsWrong (s .size) sums) ∷ []
+
 -- the paper's numbers of them: each list ascends, so that the first row that applies is "the lowest number that applies"
 abbrev pub numbersOf : List (Row Refusal) → List ℕ
 numbersOf rows = map (λ (r : Row Refusal). refusalNumber (r .refusal)) rows
@@ -186,17 +212,34 @@ pub record Orders : Type 0 where
   pub of-fill : (s : State) (o : LensOf) (shape : ℕ) (f : Inputs) (l : Lent)
       → numbersOf (fillRows s o shape f l) ≡ 1 ∷ 2 ∷ 3 ∷ 5 ∷ 6 ∷ 11 ∷ 12 ∷ 17 ∷ []
   pub of-show : (s : State) (planes : List ℕ) (v : Views) → numbersOf (showRows s planes v) ≡ 1 ∷ 2 ∷ []
+  -- the second forms
+  pub of-put-kept : (s : State) (a : Ask) (l : Lent) (k : Canvas)
+      → numbersOf (putKeptRows s a l k) ≡ 1 ∷ 2 ∷ 3 ∷ 4 ∷ 5 ∷ 6 ∷ 7 ∷ 8 ∷ 10 ∷ []
+  pub of-undo-kept : (s : State) (l : Lent) (k : Canvas) → numbersOf (undoKeptRows s l k) ≡ 1 ∷ 2 ∷ 3 ∷ 9 ∷ 10 ∷ []
+  pub of-show-kept : (s : State) (planes : List ℕ) (v : Views) (sums : List ℕ)
+      → numbersOf (showKeptRows s planes v sums) ≡ 1 ∷ 2 ∷ []
 
 -- DEMAND 1
 -- a call that goes by its rows: its answer is theirs, and "after a refusal every lent buffer is as before", the mark count 0 and
--- the state that is handed back
-pub record GoesBy (rows : List (Row Refusal)) (s : State) (l : Lent) (call : Left) : Type 0 where
-  pub first : AnswersBy rows (call .answer .outcome)
-  pub untouched : (f : Refusal) → call .answer .outcome ≡ Refused f → call ≡ refused f s l
+-- the state that is handed back. What a call leaves differs from call to call.
+pub record CallBy {A : Type 0} (rows : List (Row Refusal)) (outcomeIn : A → Outcome) (refusedAs : Refusal → A) (call : A) : Type 0 where
+  pub first : AnswersBy rows (outcomeIn call)
+  pub untouched : (f : Refusal) → outcomeIn call ≡ Refused f → call ≡ refusedAs f
 
-pub record ShowGoesBy (rows : List (Row Refusal)) (s : State) (v : Views) (call : Shown) : Type 0 where
-  pub first : AnswersBy rows (call .answer .outcome)
-  pub untouched : (f : Refusal) → call .answer .outcome ≡ Refused f → call ≡ shows (answerOf (Refused f) 0 s) v
+abbrev pub GoesBy : List (Row Refusal) → State → Lent → Left → Type 0
+GoesBy rows s l call = CallBy rows (λ (c : Left). c .answer .outcome) (λ f. refused f s l) call
+
+abbrev pub ShowGoesBy : List (Row Refusal) → State → Views → Shown → Type 0
+ShowGoesBy rows s v call = CallBy rows (λ (c : Shown). c .answer .outcome) (λ f. shows (answerOf (Refused f) 0 s) v) call
+
+-- the second forms
+abbrev pub KeptGoesBy : List (Row Refusal) → State → Lent → Canvas → Refreshed → Type 0
+KeptGoesBy rows s l k call =
+    CallBy rows (λ (c : Refreshed). c .call .answer .outcome) (λ f. leavesKept (answerOf (Refused f) 0 s) l k) call
+
+abbrev pub ShowKeptGoesBy : List (Row Refusal) → State → Views → List ℕ → ShownKept → Type 0
+ShowKeptGoesBy rows s v sums call =
+    CallBy rows (λ (c : ShownKept). c .call .answer .outcome) (λ f. showsKept (answerOf (Refused f) 0 s) v sums) call
 
 -- "Any call of a public entry, with any sizes, buffers, stored words .., gets the finished work or exactly the refusal the
 -- paper's table fixes"; the state is "all zero from open"
@@ -207,6 +250,10 @@ pub record Demand1 : Type 0 where
   pub fill-by : (s : State) (o : LensOf) (shape : ℕ) (f : Inputs) (l : Lent)
       → GoesBy (fillRows s o shape f l) s l (fillCall s o shape f l)
   pub show-by : (s : State) (planes : List ℕ) (v : Views) → ShowGoesBy (showRows s planes v) s v (showCall s planes v)
+  pub put-kept-by : (s : State) (a : Ask) (l : Lent) (k : Canvas) → KeptGoesBy (putKeptRows s a l k) s l k (putKeptCall s a l k)
+  pub undo-kept-by : (s : State) (l : Lent) (k : Canvas) → KeptGoesBy (undoKeptRows s l k) s l k (undoKeptCall s l k)
+  pub show-kept-by : (s : State) (planes : List ℕ) (v : Views) (sums : List ℕ)
+      → ShowKeptGoesBy (showKeptRows s planes v sums) s v sums (showKeptCall s planes v sums)
 
 -- PLATES THERE ARE
 -- every open with lawful sizes and right lengths is accepted, so that demands 2 and 3 speak of every plate

@@ -5,3 +5,5 @@ pub mod Changing
 pub mod Filling
 pub mod Passes
 pub mod Showing
+pub mod Keeping
+pub mod Mending

@@ -18,7 +18,7 @@ ghost use mathlib.Core.Path.{_≡_};
 ghost use Prim.Native.Nat.{_*_};
 ghost use Rattle.plate.specs.Fixed.{planesInAll};
 ghost use Rattle.plate.specs.Layout.{padded};
-ghost use Rattle.plate.specs.Refusal.{Accepted, sizesCheck, lengthCheck, lentCheck, plateCheck, askCheck, inputsCheck, viewsCheck, openCheck, putCheck, undoCheck, showCheck};
+ghost use Rattle.plate.specs.Refusal.{Accepted, sizesCheck, lengthCheck, lentCheck, plateCheck, askCheck, inputsCheck, viewsCheck, openCheck, putCheck, undoCheck, showCheck, showKeptCheck, keptCheck};
 ghost use Rattle.plate.specs.code.Bounds.{LawfulSize};
 ghost use Rattle.plate.specs.code.Filling.{fillLengths};
 
@@ -245,4 +245,48 @@ pub(crate) fn check_show(
         return sizes;
     };
     check_views(size, planes, scratch, values, mattes)
+}
+
+// 1 and 2, all that a show that keeps its sums checks.
+pub(crate) fn check_show_kept(
+    state: State,
+    planes: usize,
+    scratch: usize,
+    values: usize,
+    mattes: usize,
+    sums: usize,
+) -> Outcome
+    ensures { λ r. ⌜ r ≡ showKeptCheck state planes scratch values mattes sums ⌝ }
+{
+    let size = state.size;
+    let sizes = check_sizes(size);
+    let Outcome::Accepted = sizes else {
+        return sizes;
+    };
+    let places = size.width * size.height;
+    if sums != 2 * places {
+        return Outcome::Refused(Refusal::Lengths);
+    }
+    check_show(state, planes, scratch, values, mattes)
+}
+
+// 1, and 2 for kept sums and pictures: what the second forms of put and undo check before what the first forms do.
+pub(crate) fn check_kept(size: Size, sums: usize, values: usize, mattes: usize) -> Outcome
+    ensures { λ r. ⌜ r ≡ keptCheck size sums values mattes ⌝ }
+{
+    let sizes = check_sizes(size);
+    let Outcome::Accepted = sizes else {
+        return sizes;
+    };
+    let places = size.width * size.height;
+    if sums != 2 * places {
+        return Outcome::Refused(Refusal::Lengths);
+    }
+    if values != places {
+        return Outcome::Refused(Refusal::Lengths);
+    }
+    if mattes != places {
+        return Outcome::Refused(Refusal::Lengths);
+    }
+    Outcome::Accepted
 }

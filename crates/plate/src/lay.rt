@@ -37,7 +37,7 @@ pub struct Ground {
 }
 
 // The worth that wraps to 0 with w.
-fn opposite(w: Worth) -> Worth
+pub(crate) fn opposite(w: Worth) -> Worth
     ensures { λ r. ⌜ r ≡ times w (minus 1) ⌝ }
 {
     Worth {

@@ -16,7 +16,7 @@ ghost use Rattle.plate.specs.Calls.{putBy, putCall, leaves};
 ghost use Rattle.plate.specs.code.Changing.{PutReady};
 
 // Logs the word at the place, and sets the new pixel there.
-fn log_and_exchange(
+pub(crate) fn log_and_exchange(
     state: State,
     change: Change,
     planes: &mut [u64],

@@ -29,7 +29,7 @@ pub(crate) struct Image {
 }
 
 // Light of a plate's planes: it is summed up to the image's last column, since no sum goes leftwards.
-fn light_picture(size: Size) -> Picture
+pub(crate) fn light_picture(size: Size) -> Picture
     requires { ⌜ LawfulSize size ⌝ }
     ensures { λ r. ⌜ r ≡ lightPicture size ⌝ }
 {
@@ -57,7 +57,7 @@ fn lay_both(scratch: &mut [u64], planes: &[u64], light: Picture)
 }
 
 // Both pictures' sums, one row further.
-fn sum_both(scratch: &mut [u64], planes: &[u64], light: Picture, row: usize)
+pub(crate) fn sum_both(scratch: &mut [u64], planes: &[u64], light: Picture, row: usize)
     requires { ⌜ BothReady light (now scratch) (now planes) row ⌝ }
     ensures { λ _. ⌜ BothSummed light (now (planes .entry)) (now (scratch .entry)) (now (scratch .exit)) (row + 1) ⌝ }
 {
@@ -67,7 +67,7 @@ fn sum_both(scratch: &mut [u64], planes: &[u64], light: Picture, row: usize)
 }
 
 // The rows above the image: they are summed, and nothing is shown of them.
-fn sum_above(scratch: &mut [u64], planes: &[u64], light: Picture, rows: usize)
+pub(crate) fn sum_above(scratch: &mut [u64], planes: &[u64], light: Picture, rows: usize)
     requires { ⌜ AboveReady light (now scratch) (now planes) rows ⌝ }
     ensures { λ _. ⌜ BothSummed light (now (planes .entry)) (now (scratch .entry)) (now (scratch .exit)) rows ⌝ }
 {
@@ -78,7 +78,7 @@ fn sum_above(scratch: &mut [u64], planes: &[u64], light: Picture, rows: usize)
 }
 
 // A row of the image, from the place `first` on, of the finished sums that start at `light` and `matte`.
-fn round_row(
+pub(crate) fn round_row(
     values: &mut [u16],
     mattes: &mut [u8],
     scratch: &[u64],

@@ -14,7 +14,7 @@ ghost use Rattle.plate.specs.Calls.{undoBy, undoCall, leaves};
 ghost use Rattle.plate.specs.code.Changing.{UndoReady};
 
 // Zeroes the last log entry, and puts the logged pixel back in its place.
-fn unlog_and_exchange(
+pub(crate) fn unlog_and_exchange(
     state: State,
     change: Change,
     planes: &mut [u64],

@@ -1,4 +1,5 @@
 // A plate of 3 × 1 pixels: opened, two pixels put, one taken back, then filled. Each show prints value and matte of each cell.
+// Last a pixel is put and taken back with the pictures kept under the brush, and these are printed.
 use libc::STDOUT_FILENO;
 use plate::Lens;
 use plate::State;
@@ -10,14 +11,18 @@ fn print_cell(value: u16, matte: u8, end: &[u8]) {
     io::write_all(STDOUT_FILENO, end);
 }
 
+fn print_pictures(values: &[u16; 3], mattes: &[u8; 3]) {
+    print_cell(values[0], mattes[0], b" ");
+    print_cell(values[1], mattes[1], b" ");
+    print_cell(values[2], mattes[2], b"\n");
+}
+
 fn print_show(state: State, planes: &[u64]) {
     let mut scratch = [0u64; 297];
     let mut values = [0u16; 3];
     let mut mattes = [0u8; 3];
     plate::show::show(state, planes, &mut scratch, &mut values, &mut mattes);
-    print_cell(values[0], mattes[0], b" ");
-    print_cell(values[1], mattes[1], b" ");
-    print_cell(values[2], mattes[2], b"\n");
+    print_pictures(&values, &mattes);
 }
 
 // An opaque box.
@@ -56,6 +61,48 @@ fn fill(state: State, planes: &mut [u64], pixels: &mut [u64], log: &mut [u64]) -
     filled.state
 }
 
+// A box put and taken back. The first show keeps its sums, and put and undo mend them and the pictures.
+fn paint(state: State, planes: &mut [u64; 1386], pixels: &mut [u64; 3], log: &mut [u64; 2]) {
+    let mut scratch = [0u64; 297];
+    let mut values = [0u16; 3];
+    let mut mattes = [0u8; 3];
+    let mut sums = [0u64; 6];
+    plate::kept::show_kept(
+        state,
+        planes,
+        &mut scratch,
+        &mut values,
+        &mut mattes,
+        &mut sums,
+    );
+    let dab = plate::kept::put_kept(
+        state,
+        0,
+        0,
+        40,
+        255,
+        0,
+        1,
+        planes,
+        pixels,
+        log,
+        &mut sums,
+        &mut values,
+        &mut mattes,
+    );
+    print_pictures(&values, &mattes);
+    plate::kept::undo_kept(
+        dab.state,
+        planes,
+        pixels,
+        log,
+        &mut sums,
+        &mut values,
+        &mut mattes,
+    );
+    print_pictures(&values, &mattes);
+}
+
 fn main() {
     let mut planes = [0u64; 1386];
     let mut pixels = [0u64; 3];
@@ -68,4 +115,5 @@ fn main() {
     print_show(undone.state, &planes);
     let filled = fill(undone.state, &mut planes, &mut pixels, &mut log);
     print_show(filled, &planes);
+    paint(filled, &mut planes, &mut pixels, &mut log);
 }

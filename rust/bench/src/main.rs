@@ -11,7 +11,7 @@ mod table;
 
 use plate::{Bench, Engine, engines};
 use reference::kernel::{Kernel, SHAPES, Shape};
-use table::{Table, milliseconds, nanoseconds, ratio};
+use table::{Table, microseconds, milliseconds, nanoseconds, ratio};
 
 const SHAPE: Shape = Shape::Octagon;
 const REACH: usize = 64;
@@ -22,19 +22,25 @@ const SIZES: [(usize, usize); 5] = [(64, 64), (256, 128), (1_024, 512), MAIN, (4
 /// A radius that every shape has.
 const SHAPES_RADIUS: usize = 3;
 
+/// Kernels whose puts mend kept pictures: each shape with a radius of the layer and one that is
+/// put, the same, or a wide one on a sharp layer.
+const KEPT_SHAPES: [Shape; 2] = [Shape::Box, Shape::Octagon];
+const KEPT_RADII: [(usize, usize); 5] = [(1, 1), (8, 8), (64, 64), (0, 8), (0, 64)];
+
 /// Beyond so many taps the tap-by-tap program is not waited for.
 const TAPS_WAITED_FOR: u64 = 2_000_000_000;
 
 fn main() {
     let engines = engines();
     println!(
-        "Octagons but for the last table, reach {REACH}. Processor time, the best of several \
-         rounds of one run.\n"
+        "Octagons but in tables that name the shape, reach {REACH}. Processor time, the best of \
+         several rounds of one run.\n"
     );
     main_table(&engines);
     radius_table(&engines);
     size_table(&engines);
     shape_table(&engines);
+    kept_table(&engines);
     record_line();
 }
 
@@ -198,6 +204,45 @@ fn shape_table(engines: &[Engine]) {
                 milliseconds(time.show),
                 nanoseconds(time.put_undo),
             ]);
+        }
+    }
+    table.print();
+}
+
+/// The second forms of put, undo and show, on the main size.
+fn kept_table(engines: &[Engine]) {
+    let (width, height) = MAIN;
+    println!("## {width} × {height}, pictures kept under the brush\n");
+    let mut table = Table::new(&[
+        "shape",
+        "layer's radius",
+        "put radius",
+        "engine",
+        "put + undo kept to handmade",
+        "put and show to put kept",
+        "show kept to show",
+        "put + undo kept",
+        "show kept",
+    ]);
+    let mut bench = Bench::new(width, height, REACH);
+    for shape in KEPT_SHAPES {
+        for (layer, put) in KEPT_RADII {
+            bench.lay_under(layer, put);
+            let times = bench.run_kept(engines, shape, 7);
+            let handmade = times[times.len() - 1];
+            for (engine, time) in engines.iter().zip(&times) {
+                table.row([
+                    format!("{shape:?}").to_lowercase(),
+                    layer.to_string(),
+                    put.to_string(),
+                    engine.name.into(),
+                    ratio(time.put_undo_kept, handmade.put_undo_kept),
+                    ratio(time.put_and_show(), time.put_kept()),
+                    ratio(time.show_kept, time.show),
+                    microseconds(time.put_undo_kept),
+                    milliseconds(time.show_kept),
+                ]);
+            }
         }
     }
     table.print();

@@ -6,7 +6,8 @@ use std::time::Duration;
 use compare::engine::{self, Handmade};
 use compare::random::Random;
 use compare::step::{PAPER_LENS, depth_of};
-use reference::kernel::Shape;
+use reference::kept::Kept;
+use reference::kernel::{Kernel, Shape};
 use reference::marks::Layout;
 use reference::pixel::Pixel;
 use reference::spread::{Grid, pictures};
@@ -18,11 +19,13 @@ use crate::clock::time;
 pub struct Engine {
     pub name: &'static str,
     round: fn(&mut Bench, Shape, &mut Times),
+    kept_round: fn(&mut Bench, Shape, &mut KeptTimes),
 }
 
 impl Engine {
     fn of<E: engine::Engine>() -> Engine {
-        Engine { name: E::NAME, round: Bench::round::<E> }
+        let kept_round = Bench::kept_round::<E>;
+        Engine { name: E::NAME, round: Bench::round::<E>, kept_round }
     }
 }
 
@@ -43,6 +46,26 @@ pub struct Times {
     pub put_undo: Duration,
 }
 
+/// The best times of one engine's first and second forms.
+#[derive(Clone, Copy)]
+pub struct KeptTimes {
+    pub show: Duration,
+    pub show_kept: Duration,
+    pub put_undo: Duration,
+    pub put_undo_kept: Duration,
+}
+
+impl KeptTimes {
+    /// A put and a show after it; a put takes as long as its undo, about.
+    pub fn put_and_show(self) -> Duration {
+        self.put_undo / 2 + self.show
+    }
+
+    pub fn put_kept(self) -> Duration {
+        self.put_undo_kept / 2
+    }
+}
+
 /// The best times of a run: one pure read of the 14 planes, and each engine's.
 pub struct Run {
     pub read: Duration,
@@ -59,6 +82,9 @@ impl Run {
 /// Pairs of put and undo that are timed together.
 const PAIRS: u32 = 20_000;
 
+/// Of those that mend kept pictures no more than mend so many cells.
+const MENDED_CELLS: u64 = 10_000_000;
+
 pub struct Bench {
     state: State,
     planes: Vec<u64>,
@@ -67,6 +93,10 @@ pub struct Bench {
     scratch: Vec<u64>,
     shown_values: Vec<u16>,
     shown_mattes: Vec<u8>,
+    /// Kept by the calls' second forms, those that are shown beside those of the first forms.
+    sums: Vec<u64>,
+    kept_values: Vec<u16>,
+    kept_mattes: Vec<u8>,
     values: Vec<u16>,
     opacities: Vec<u8>,
     depths: Vec<u32>,
@@ -89,6 +119,9 @@ impl Bench {
             scratch: vec![0; 3 * layout.cells()],
             shown_values: vec![0; cells],
             shown_mattes: vec![0; cells],
+            sums: vec![0; 2 * cells],
+            kept_values: vec![0; cells],
+            kept_mattes: vec![0; cells],
             values: (0..cells).map(|_| random.below(4_096) as u16).collect(),
             opacities: (0..cells).map(|_| random.below(256) as u8).collect(),
             depths: vec![0; cells],
@@ -117,6 +150,12 @@ impl Bench {
         self.put_radius = radius as u8;
     }
 
+    /// Depths that give every pixel one radius, and puts another.
+    pub fn lay_under(&mut self, layer: usize, put: usize) {
+        self.lay_radius(layer);
+        self.put_radius = put as u8;
+    }
+
     /// Times every engine and the pure read in turn, several rounds long.
     pub fn run(&mut self, engines: &[Engine], shape: Shape, rounds: usize) -> Run {
         let never = Duration::MAX;
@@ -131,11 +170,44 @@ impl Bench {
         run
     }
 
+    /// Times the second forms of every engine's calls, and beside them the first.
+    pub fn run_kept(
+        &mut self,
+        engines: &[Engine],
+        shape: Shape,
+        rounds: usize,
+    ) -> Vec<KeptTimes> {
+        let never = Duration::MAX;
+        let unset =
+            KeptTimes { show: never, show_kept: never, put_undo: never, put_undo_kept: never };
+        let mut best = vec![unset; engines.len()];
+        self.fill::<Handmade>(shape);
+        for _ in 0..rounds {
+            for (engine, best) in engines.iter().zip(&mut best) {
+                (engine.kept_round)(self, shape, best);
+            }
+        }
+        best
+    }
+
     fn round<E: engine::Engine>(&mut self, shape: Shape, best: &mut Times) {
         best.fill = best.fill.min(time(|| self.fill::<E>(shape)));
         best.show = best.show.min(time(|| self.show::<E>()));
         let pairs = time(|| self.put_and_undo::<E>(shape));
         best.put_undo = best.put_undo.min(pairs / PAIRS);
+    }
+
+    fn kept_round<E: engine::Engine>(&mut self, shape: Shape, best: &mut KeptTimes) {
+        best.show = best.show.min(time(|| self.show::<E>()));
+        best.show_kept = best.show_kept.min(time(|| self.show_kept::<E>()));
+        let pairs = time(|| self.put_and_undo::<E>(shape));
+        best.put_undo = best.put_undo.min(pairs / PAIRS);
+        let area = Kernel::of(shape, usize::from(self.put_radius)).area();
+        let count = (MENDED_CELLS / area).min(u64::from(PAIRS)) as u32;
+        let pairs = time(|| self.put_and_undo_kept::<E>(shape, count));
+        best.put_undo_kept = best.put_undo_kept.min(pairs / count);
+        let kept_is_shown = self.kept_values == self.shown_values;
+        assert!(kept_is_shown && self.kept_mattes == self.shown_mattes);
     }
 
     fn fill<E: engine::Engine>(&mut self, shape: Shape) {
@@ -155,20 +227,38 @@ impl Bench {
         accepted(E::show(*state, planes, scratch, shown_values, shown_mattes));
     }
 
+    fn show_kept<E: engine::Engine>(&mut self) {
+        let Bench { state, planes, scratch, sums, kept_values, kept_mattes, .. } = self;
+        let kept = Kept { sums, values: kept_values, mattes: kept_mattes };
+        accepted(E::show_kept(*state, planes, scratch, kept));
+    }
+
     fn put_and_undo<E: engine::Engine>(&mut self, shape: Shape) {
+        let any = self.any_put(shape);
         let Bench { state, planes, pixels, log, .. } = self;
         for &(x, y) in &self.places {
-            let put = Put {
-                x,
-                y,
-                value: 1_000,
-                opacity: 200,
-                shape: shape.number(),
-                radius: self.put_radius,
-            };
+            let put = Put { x, y, ..any };
             let answer = accepted(E::put(*state, put, planes, pixels, log));
             accepted(E::undo(answer.state, planes, pixels, log));
         }
+    }
+
+    fn put_and_undo_kept<E: engine::Engine>(&mut self, shape: Shape, pairs: u32) {
+        let any = self.any_put(shape);
+        let Bench { state, planes, pixels, log, sums, kept_values, kept_mattes, .. } = self;
+        for &(x, y) in &self.places[..pairs as usize] {
+            let put = Put { x, y, ..any };
+            let kept = Kept { sums, values: kept_values, mattes: kept_mattes };
+            let answer = accepted(E::put_kept(*state, put, planes, pixels, log, kept));
+            let kept = Kept { sums, values: kept_values, mattes: kept_mattes };
+            accepted(E::undo_kept(answer.state, planes, pixels, log, kept));
+        }
+    }
+
+    /// What is put, wherever it is.
+    fn any_put(&self, shape: Shape) -> Put {
+        let (shape, radius) = (shape.number(), self.put_radius);
+        Put { x: 0, y: 0, value: 1_000, opacity: 200, shape, radius }
     }
 
     fn read(&self) {

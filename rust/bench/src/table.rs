@@ -45,6 +45,10 @@ pub fn milliseconds(time: Duration) -> String {
     format!("{:.2} ms", time.as_secs_f64() * 1e3)
 }
 
+pub fn microseconds(time: Duration) -> String {
+    format!("{:.2} µs", time.as_secs_f64() * 1e6)
+}
+
 pub fn nanoseconds(time: Duration) -> String {
     format!("{:.0} ns", time.as_secs_f64() * 1e9)
 }

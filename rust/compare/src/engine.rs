@@ -1,7 +1,9 @@
-//! The five calls as a trait, in the reference's types.
+//! The calls as a trait, in the reference's types; those that keep sums and pictures beside
+//! the plate are the second forms of show, put and undo.
 
 #[cfg(feature = "proved")]
 use lens::raw;
+use reference::kept::Kept;
 use reference::{Answer, Fill, Lens, Put, State, stored};
 
 pub trait Engine {
@@ -40,6 +42,25 @@ pub trait Engine {
         scratch: &mut [u64],
         values: &mut [u16],
         mattes: &mut [u8],
+    ) -> Answer;
+
+    fn show_kept(state: State, planes: &[u64], scratch: &mut [u64], kept: Kept) -> Answer;
+
+    fn put_kept(
+        state: State,
+        put: Put,
+        planes: &mut [u64],
+        pixels: &mut [u64],
+        log: &mut [u64],
+        kept: Kept,
+    ) -> Answer;
+
+    fn undo_kept(
+        state: State,
+        planes: &mut [u64],
+        pixels: &mut [u64],
+        log: &mut [u64],
+        kept: Kept,
     ) -> Answer;
 }
 
@@ -149,6 +170,50 @@ macro_rules! mirror {
                 let answer = $module::show(state, planes, scratch, values, mattes);
                 $engine::answer(answer)
             }
+
+            fn show_kept(
+                state: State,
+                planes: &[u64],
+                scratch: &mut [u64],
+                kept: Kept,
+            ) -> Answer {
+                let state = $engine::state(state);
+                let Kept { sums, values, mattes } = kept;
+                let answer = $module::show_kept(state, planes, scratch, values, mattes, sums);
+                $engine::answer(answer)
+            }
+
+            fn put_kept(
+                state: State,
+                put: Put,
+                planes: &mut [u64],
+                pixels: &mut [u64],
+                log: &mut [u64],
+                kept: Kept,
+            ) -> Answer {
+                let state = $engine::state(state);
+                let Put { x, y, value, opacity, shape, radius } = put;
+                let Kept { sums, values, mattes } = kept;
+                let answer = $module::put_kept(
+                    state, x, y, value, opacity, shape, radius, planes, pixels, log, sums,
+                    values, mattes,
+                );
+                $engine::answer(answer)
+            }
+
+            fn undo_kept(
+                state: State,
+                planes: &mut [u64],
+                pixels: &mut [u64],
+                log: &mut [u64],
+                kept: Kept,
+            ) -> Answer {
+                let state = $engine::state(state);
+                let Kept { sums, values, mattes } = kept;
+                let answer =
+                    $module::undo_kept(state, planes, pixels, log, sums, values, mattes);
+                $engine::answer(answer)
+            }
         }
 
         impl $engine {
@@ -216,5 +281,30 @@ impl Engine for Stored {
         mattes: &mut [u8],
     ) -> Answer {
         stored::show(state, planes, scratch, values, mattes)
+    }
+
+    fn show_kept(state: State, planes: &[u64], scratch: &mut [u64], kept: Kept) -> Answer {
+        stored::show_kept(state, planes, scratch, kept)
+    }
+
+    fn put_kept(
+        state: State,
+        put: Put,
+        planes: &mut [u64],
+        pixels: &mut [u64],
+        log: &mut [u64],
+        kept: Kept,
+    ) -> Answer {
+        stored::put_kept(state, put, planes, pixels, log, kept)
+    }
+
+    fn undo_kept(
+        state: State,
+        planes: &mut [u64],
+        pixels: &mut [u64],
+        log: &mut [u64],
+        kept: Kept,
+    ) -> Answer {
+        stored::undo_kept(state, planes, pixels, log, kept)
     }
 }

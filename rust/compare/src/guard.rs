@@ -2,6 +2,11 @@
 
 use std::ops::{Deref, DerefMut};
 
+use reference::State;
+use reference::kept::{Kept, KeptLengths};
+use reference::marks::Layout;
+use reference::spread::{Grid, pictures, sums};
+
 use crate::random::Random;
 
 /// Cells on each side of a buffer.
@@ -77,6 +82,16 @@ pub struct PlateBuffers {
 }
 
 impl PlateBuffers {
+    /// Of the right lengths for these sizes, with a log of this room.
+    pub fn garbage(sizes: State, room: usize, random: &mut Random) -> PlateBuffers {
+        let State { width, height, reach, .. } = sizes;
+        PlateBuffers {
+            planes: Guarded::garbage(Layout::of(width, height, reach).all_planes(), random),
+            pixels: Guarded::garbage(width * height, random),
+            log: Guarded::garbage(room, random),
+        }
+    }
+
     pub fn guards_hold(&self) -> bool {
         self.planes.guards_hold() && self.pixels.guards_hold() && self.log.guards_hold()
     }
@@ -116,6 +131,49 @@ impl ShowBuffers {
 
     pub fn same_cells(&self, other: &ShowBuffers) -> bool {
         *self.scratch == *other.scratch
+            && *self.values == *other.values
+            && *self.mattes == *other.mattes
+    }
+}
+
+/// What the second forms of calls are lent: sums and pictures, kept beside the plate.
+#[derive(Clone)]
+pub struct KeptBuffers {
+    pub sums: Guarded<u64>,
+    pub values: Guarded<u16>,
+    pub mattes: Guarded<u8>,
+}
+
+impl KeptBuffers {
+    /// The sums are of some length in bits, so that rounding meets all sizes of them.
+    pub fn garbage(lengths: KeptLengths, random: &mut Random) -> KeptBuffers {
+        let bits = random.within(1, 64);
+        KeptBuffers {
+            sums: Guarded::filled(lengths.sums, || random.bits() >> (64 - bits)),
+            values: Guarded::garbage(lengths.values, random),
+            mattes: Guarded::garbage(lengths.mattes, random),
+        }
+    }
+
+    pub fn lend(&mut self) -> Kept<'_> {
+        let KeptBuffers { sums, values, mattes } = self;
+        Kept { sums, values, mattes }
+    }
+
+    /// Whether they hold the plain sums of this grid, and its plain pictures.
+    pub fn are_of(&self, grid: &Grid) -> bool {
+        let shown = pictures(grid);
+        self.sums[..] == sums(grid)
+            && self.values[..] == shown.values
+            && self.mattes[..] == shown.mattes
+    }
+
+    pub fn guards_hold(&self) -> bool {
+        self.sums.guards_hold() && self.values.guards_hold() && self.mattes.guards_hold()
+    }
+
+    pub fn same_cells(&self, other: &KeptBuffers) -> bool {
+        *self.sums == *other.sums
             && *self.values == *other.values
             && *self.mattes == *other.mattes
     }

@@ -1,9 +1,12 @@
 //! What the comparisons in `tests/` stand on: engines behind one trait, buffers between
-//! guard cells, calls made at random, a list of calls held against the notebook, a plate for
-//! calls made one by one, and a count of the numbers that calls got.
+//! guard cells, calls made at random, all that a call is lent, a list of calls held against the
+//! notebook, with what it keeps beside its plate, a plate for calls made one by one, and a count
+//! of the numbers that calls got.
 
 pub mod engine;
 pub mod guard;
+mod keeping;
+pub mod lent;
 pub mod list;
 pub mod numbers;
 pub mod plate;

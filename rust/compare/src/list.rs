@@ -2,17 +2,19 @@
 
 use std::fmt;
 
-use reference::marks::{Layout, marks_of_grid};
+use reference::kept::Kept;
+use reference::marks::marks_of_grid;
 use reference::notebook::Notebook;
 use reference::pixel::entry;
 use reference::spread::Pictures;
 use reference::{Answer, State};
 
 use crate::engine::Engine;
-use crate::guard::{Guarded, PlateBuffers, ShowBuffers};
+use crate::guard::{PlateBuffers, ShowBuffers};
+use crate::keeping::Keeping;
 use crate::numbers::Numbers;
 use crate::random::Random;
-use crate::step::Step;
+use crate::step::{Step, Told};
 
 /// What was tried.
 #[derive(Default)]
@@ -22,6 +24,9 @@ pub struct Tally {
     undos: usize,
     fills: usize,
     shows: usize,
+    /// Those in their second form, and changes whose mended pictures were a show's.
+    kept: usize,
+    followed: usize,
     pub numbers: Numbers,
     cells: usize,
 }
@@ -29,26 +34,31 @@ pub struct Tally {
 impl Tally {
     fn count(&mut self, step: &Step, number: u32) {
         match step {
-            Step::Put(_) => self.puts += 1,
-            Step::Undo => self.undos += 1,
+            Step::Put(_) | Step::PutKept(..) => self.puts += 1,
+            Step::Undo | Step::UndoKept(_) => self.undos += 1,
             Step::Fill(_) => self.fills += 1,
-            Step::Show { .. } => self.shows += 1,
+            Step::Show { .. } | Step::ShowKept { .. } => self.shows += 1,
         }
+        self.kept += usize::from(step.is_kept());
         self.numbers.count(number);
     }
 }
 
 impl fmt::Display for Tally {
     fn fmt(&self, f: &mut fmt::Formatter<'_>) -> fmt::Result {
-        let Tally { lists, puts, undos, fills, shows, numbers, cells } = self;
+        let Tally { lists, puts, undos, fills, shows, kept, followed, numbers, cells } = self;
         write!(f, "{lists} lists: {puts} puts, {undos} undos, {fills} fills, {shows} shows; ")?;
+        write!(
+            f,
+            "{kept} in their second form, {followed} changes followed in kept pictures; "
+        )?;
         write!(f, "{numbers}; {cells} plane cells compared")
     }
 }
 
 /// Opens a plate, makes the calls, and compares: after each call number, marks, state and
-/// guards, and that a refused one changed nothing; for each show both pictures; after the
-/// list every cell of planes, pixels and log.
+/// guards, and that a refused one changed nothing; for each show both pictures; for second
+/// forms all that they keep; after the list every cell of planes, pixels and log.
 pub fn run<E: Engine>(
     sizes: State,
     room: usize,
@@ -63,52 +73,42 @@ pub fn run<E: Engine>(
     }
     list.compare_stored(E::NAME);
     tally.lists += 1;
+    tally.followed += list.keeping.followed;
     tally.cells += list.plate.planes.len();
 }
 
-/// The notebook, and beside it the plate as the call before left it.
+/// The notebook, and beside it the plate as the call before left it, with what is kept.
 struct List {
     notebook: Notebook,
     plate: PlateBuffers,
     state: State,
+    keeping: Keeping,
 }
 
 impl List {
     fn open<E: Engine>(sizes: State, room: usize, random: &mut Random) -> List {
         let State { width, height, reach, .. } = sizes;
-        let layout = Layout::of(width, height, reach);
-        let mut plate = PlateBuffers {
-            planes: Guarded::garbage(layout.all_planes(), random),
-            pixels: Guarded::garbage(width * height, random),
-            log: Guarded::garbage(room, random),
-        };
+        let mut plate = PlateBuffers::garbage(sizes, room, random);
         let PlateBuffers { planes, pixels, log } = &mut plate;
         let answer = E::open(width, height, reach, planes, pixels, log);
         let state = State { count: 0, ..sizes };
         assert_eq!(answer, Answer { number: 0, marks: 0, state }, "{}: open", E::NAME);
-        List { notebook: Notebook::open(width, height, reach, room), plate, state }
+        let notebook = Notebook::open(width, height, reach, room);
+        List { notebook, plate, state, keeping: Keeping::new(width * height, random) }
     }
 
     /// Makes one call and compares it; its number.
     fn step<E: Engine>(&mut self, index: usize, step: &Step, random: &mut Random) -> u32 {
-        let call = || format!("{}, call {index} on {:?}: {step:?}", E::NAME, self.state);
-        let (report, pictures) = step.tell(&mut self.notebook);
+        let told = step.tell(&mut self.notebook);
+        let report = told.report;
         let before = (report.number != 0).then(|| self.plate.clone());
-        let PlateBuffers { planes, pixels, log } = &mut self.plate;
-        let answer = match step {
-            Step::Put(put) => E::put(self.state, *put, planes, pixels, log),
-            Step::Undo => E::undo(self.state, planes, pixels, log),
-            Step::Fill(inputs) => E::fill(self.state, &inputs.as_fill(), planes, pixels, log),
-            &Step::Show { scratch, values, mattes } => {
-                let lent = ShowBuffers::garbage(scratch, values, mattes, random);
-                show::<E>(self.state, planes, lent, pictures)
-            }
-        };
+        let answer = self.call::<E>(step, told, random);
         let expected = Answer {
             number: report.number,
             marks: report.marks,
             state: State { count: self.notebook.pile.len(), ..self.state },
         };
+        let call = || format!("{}, call {index} on {:?}: {step:?}", E::NAME, self.state);
         assert_eq!(answer, expected, "{}", call());
         assert!(self.plate.guards_hold(), "cells beyond a buffer changed: {}", call());
         if let Some(before) = before {
@@ -116,6 +116,35 @@ impl List {
         }
         self.state = answer.state;
         report.number
+    }
+
+    fn call<E: Engine>(&mut self, step: &Step, told: Told, random: &mut Random) -> Answer {
+        let List { notebook, plate, state, keeping } = self;
+        let (state, PlateBuffers { planes, pixels, log }) = (*state, plate);
+        if step.leaves_kept_behind() && told.report.number == 0 {
+            keeping.left_behind();
+        }
+        match step {
+            Step::Put(put) => E::put(state, *put, planes, pixels, log),
+            Step::Undo => E::undo(state, planes, pixels, log),
+            Step::Fill(inputs) => E::fill(state, &inputs.as_fill(), planes, pixels, log),
+            &Step::Show { scratch, values, mattes } => {
+                let lent = ShowBuffers::garbage(scratch, values, mattes, random);
+                show::<E>(state, planes, lent, told.pictures)
+            }
+            &Step::PutKept(put, kept) => {
+                let put_kept = |kept: Kept| E::put_kept(state, put, planes, pixels, log, kept);
+                keeping.mend(kept, told.change, &notebook.grid, random, put_kept)
+            }
+            &Step::UndoKept(kept) => {
+                let undo_kept = |kept: Kept| E::undo_kept(state, planes, pixels, log, kept);
+                keeping.mend(kept, told.change, &notebook.grid, random, undo_kept)
+            }
+            &Step::ShowKept { scratch, kept } => {
+                let shown = told.pictures.map(|_| &notebook.grid);
+                keeping.show::<E>(state, planes, scratch, kept, shown, random)
+            }
+        }
     }
 
     fn compare_stored(&self, name: &str) {

@@ -1,5 +1,6 @@
 //! A plate with its own buffers, for calls made one by one.
 
+use reference::kept::Kept;
 use reference::marks::{Layout, PLANES, plane_of_slope};
 use reference::{Answer, Fill, Lens, Put, State};
 
@@ -63,6 +64,20 @@ impl Plate {
     pub fn undo<E: Engine>(&mut self) -> Answer {
         let Plate { state, planes, pixels, log } = self;
         let answer = E::undo(*state, planes, pixels, log);
+        *state = answer.state;
+        answer
+    }
+
+    pub fn put_kept<E: Engine>(&mut self, put: Put, kept: Kept) -> Answer {
+        let Plate { state, planes, pixels, log } = self;
+        let answer = E::put_kept(*state, put, planes, pixels, log, kept);
+        *state = answer.state;
+        answer
+    }
+
+    pub fn undo_kept<E: Engine>(&mut self, kept: Kept) -> Answer {
+        let Plate { state, planes, pixels, log } = self;
+        let answer = E::undo_kept(*state, planes, pixels, log, kept);
         *state = answer.state;
         answer
     }

@@ -1,5 +1,6 @@
 //! Calls made at random, lawful ones and unlawful ones, for a plate of given sizes.
 
+use reference::kept::{Change, KeptLengths};
 use reference::kernel::Shape;
 use reference::marks::Layout;
 use reference::notebook::{Notebook, Report};
@@ -15,7 +16,27 @@ pub enum Step {
     Put(Put),
     Undo,
     Fill(Inputs),
-    Show { scratch: usize, values: usize, mattes: usize },
+    Show {
+        scratch: usize,
+        values: usize,
+        mattes: usize,
+    },
+    /// The second forms, with the lengths of what they are lent to keep.
+    PutKept(Put, KeptLengths),
+    UndoKept(KeptLengths),
+    ShowKept {
+        scratch: usize,
+        kept: KeptLengths,
+    },
+}
+
+/// What the notebook says of a call.
+pub struct Told {
+    pub report: Report,
+    /// The plain pictures, of an accepted show.
+    pub pictures: Option<Pictures>,
+    /// What an accepted put or undo changed.
+    pub change: Option<Change>,
 }
 
 /// Fill's arguments, with its three inputs.
@@ -47,13 +68,55 @@ impl Step {
         Step::Show { scratch, values: width * height, mattes: width * height }
     }
 
-    /// What the notebook says of this call, with the plain pictures of an accepted show.
-    pub fn tell(&self, notebook: &mut Notebook) -> (Report, Option<Pictures>) {
+    /// Its second form, lent the right lengths; a fill has none.
+    pub fn kept(self, cells: usize) -> Step {
+        let kept = KeptLengths::of(cells);
         match self {
+            Step::Put(put) => Step::PutKept(put, kept),
+            Step::Undo => Step::UndoKept(kept),
+            Step::Show { scratch, .. } => Step::ShowKept { scratch, kept },
+            other => other,
+        }
+    }
+
+    pub fn is_kept(&self) -> bool {
+        matches!(self, Step::PutKept(..) | Step::UndoKept(_) | Step::ShowKept { .. })
+    }
+
+    /// Whether it changes the plate, where it is accepted, and is lent nothing to mend.
+    pub fn leaves_kept_behind(&self) -> bool {
+        matches!(self, Step::Put(_) | Step::Undo | Step::Fill(_))
+    }
+
+    /// Hands the call to the notebook.
+    pub fn tell(&self, notebook: &mut Notebook) -> Told {
+        let before = self.place(notebook).map(|place| (place, notebook.grid.pixels[place]));
+        let (report, pictures) = match self {
             Step::Put(put) => (notebook.put(*put), None),
             Step::Undo => (notebook.undo(), None),
             Step::Fill(inputs) => (notebook.fill(&inputs.as_fill()), None),
             &Step::Show { scratch, values, mattes } => notebook.show(scratch, values, mattes),
+            &Step::PutKept(put, kept) => (notebook.put_kept(put, kept), None),
+            &Step::UndoKept(kept) => (notebook.undo_kept(kept), None),
+            &Step::ShowKept { scratch, kept } => notebook.show_kept(scratch, kept),
+        };
+        let change = before.filter(|_| report.number == 0).map(|(place, old)| {
+            let new = notebook.grid.pixels[place];
+            Change { place, old, new }
+        });
+        Told { report, pictures, change }
+    }
+
+    /// Where a put or an undo would make its change.
+    fn place(&self, notebook: &Notebook) -> Option<usize> {
+        let Notebook { grid, pile, .. } = notebook;
+        match self {
+            Step::Put(put) | Step::PutKept(put, _) => {
+                let inside = put.x < grid.width && put.y < grid.height;
+                inside.then(|| put.y * grid.width + put.x)
+            }
+            Step::Undo | Step::UndoKept(_) => pile.last().map(|&(place, _)| place),
+            Step::Fill(_) | Step::Show { .. } | Step::ShowKept { .. } => None,
         }
     }
 }
@@ -81,14 +144,22 @@ pub struct Maker<'a> {
 }
 
 impl Maker<'_> {
+    /// A call in its first form, or as often in its second.
     pub fn step(&mut self) -> Step {
-        match self.random.below(10) {
-            0..5 => Step::Put(self.put()),
-            5..7 => Step::Undo,
-            7 => Step::Fill(self.inputs()),
-            _ => {
+        let kept = self.random.once_in(2).then(|| self.kept_lengths());
+        match (self.random.below(10), kept) {
+            (0..5, None) => Step::Put(self.put()),
+            (0..5, Some(kept)) => Step::PutKept(self.put(), kept),
+            (5..7, None) => Step::Undo,
+            (5..7, Some(kept)) => Step::UndoKept(kept),
+            (7, _) => Step::Fill(self.inputs()),
+            (_, None) => {
                 let [scratch, values, mattes] = self.show_lengths();
                 Step::Show { scratch, values, mattes }
+            }
+            (_, Some(kept)) => {
+                let [scratch, ..] = self.show_lengths();
+                Step::ShowKept { scratch, kept }
             }
         }
     }
@@ -110,6 +181,13 @@ impl Maker<'_> {
         let cells = self.width * self.height;
         let scratch = 3 * Layout::of(self.width, self.height, self.reach).cells();
         [scratch, cells, cells].map(|right| self.length(right))
+    }
+
+    /// Lengths of sums, values and mattes to lend to the second form of a call.
+    pub fn kept_lengths(&mut self) -> KeptLengths {
+        let KeptLengths { sums, values, mattes } = KeptLengths::of(self.width * self.height);
+        let [sums, values, mattes] = [sums, values, mattes].map(|right| self.length(right));
+        KeptLengths { sums, values, mattes }
     }
 
     pub fn inputs(&mut self) -> Inputs {

@@ -43,7 +43,14 @@ fn run_with_engine(object: &Path) {
                 show 0: 46/255 100/28 100/28\n\
                 show 0: 100/28 100/28 100/28\n\
                 fill 17\nfill 0\n\
-                show 0: 7/255 8/255 9/255\n";
+                show 0: 7/255 8/255 9/255\n\
+                show kept 0: 0/0 0/0 0/0\n\
+                put kept 0: 100/28 100/28 100/28\n\
+                put kept 0: 46/255 100/28 100/28\n\
+                put kept 8: 46/255 100/28 100/28\n\
+                undo kept 2: 46/255 100/28 100/28\n\
+                undo kept 0: 100/28 100/28 100/28\n\
+                sums 23767708500 237677085\n";
     assert_eq!(String::from_utf8_lossy(&output.stdout), text);
 }
 

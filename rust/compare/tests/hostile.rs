@@ -5,23 +5,31 @@
 //! arguments and the same cells. Answers and every cell must agree, refused or not.
 
 use compare::engine::{Engine, Handmade, Stored};
-use compare::guard::{Guarded, PlateBuffers, ShowBuffers};
+use compare::guard::{Guarded, PlateBuffers};
+use compare::lent::Lent;
 use compare::numbers::Numbers;
 use compare::random::Random;
 use compare::say;
 use compare::step::{Maker, Step};
+use reference::State;
 use reference::marks::Layout;
-use reference::{Answer, State};
 
-const CASES: usize = 40_000;
+const CASES: usize = 64_000;
+
+/// The refusals of a put and of an undo, in either form.
+const PUT: &[u32] = &[1, 2, 3, 4, 5, 6, 7, 8, 10];
+const UNDO: &[u32] = &[1, 2, 3, 9, 10];
 
 /// The calls, and the refusals of each.
-const CALLS: [(&str, &[u32]); 5] = [
+const CALLS: [(&str, &[u32]); 8] = [
     ("open", &[1, 2]),
-    ("put", &[1, 2, 3, 4, 5, 6, 7, 8, 10]),
-    ("undo", &[1, 2, 3, 9, 10]),
+    ("put", PUT),
+    ("undo", UNDO),
     ("fill", &[1, 2, 3, 5, 6, 11, 12, 17]),
     ("show", &[1, 2]),
+    ("put with kept pictures", PUT),
+    ("undo with kept pictures", UNDO),
+    ("show with kept pictures", &[1, 2]),
 ];
 
 /// Every refusal of each call comes up.
@@ -37,61 +45,38 @@ fn hostile_calls<E: Engine>() {
     }
 }
 
-fn hostile_call<E: Engine>(random: &mut Random, tally: &mut [Numbers; 5]) {
+fn hostile_call<E: Engine>(random: &mut Random, tally: &mut [Numbers; CALLS.len()]) {
     let (width, height) = (random.within(1, 4), random.within(1, 4));
     let reach = if random.once_in(50) { random.within(0, 64) } else { random.within(0, 4) };
-    let mut plate = hostile_plate(width, height, reach, random);
+    let plate = hostile_plate(width, height, reach, random);
     let count = random.below(plate.log.len() + 1);
     let state = hostile_state(State { width, height, reach, count }, random);
-    let mut model = plate.clone();
     let call = random.below(CALLS.len());
-    let (answer, expected) = match call {
-        0 => (open::<E>(state, &mut plate), open::<Stored>(state, &mut model)),
-        4 => {
-            let [scratch, values, mattes] =
-                Maker { random, width, height, reach }.show_lengths();
-            let mut lent = ShowBuffers::garbage(scratch, values, mattes, random);
-            let mut model_lent = lent.clone();
-            let answer = show::<E>(state, &plate, &mut lent);
-            let expected = show::<Stored>(state, &model, &mut model_lent);
-            assert!(lent.guards_hold(), "{}: show wrote beyond its buffers", E::NAME);
-            assert!(lent.same_cells(&model_lent), "{}: show on {state:?}", E::NAME);
-            (answer, expected)
-        }
-        _ => {
-            let mut maker = Maker { random, width, height, reach };
-            let step = match call {
-                1 => Step::Put(maker.put()),
-                2 => Step::Undo,
-                _ => Step::Fill(maker.inputs()),
-            };
-            (change::<E>(state, &step, &mut plate), change::<Stored>(state, &step, &mut model))
-        }
-    };
-    assert_eq!(answer, expected, "{}: call {call} on {state:?}", E::NAME);
-    assert!(plate.guards_hold(), "{}: call {call} wrote beyond its buffers", E::NAME);
-    assert!(plate.same_cells(&model), "{}: call {call} on {state:?}, {answer:?}", E::NAME);
+    let step = hostile_step(call, &mut Maker { random, width, height, reach });
+    let mut lent = Lent::to(step.as_ref(), plate, random);
+    let mut model = lent.clone();
+    let answer = lent.call::<E>(state, step.as_ref());
+    let expected = model.call::<Stored>(state, step.as_ref());
+    assert_eq!(answer, expected, "{}: {step:?} on {state:?}", E::NAME);
+    assert!(lent.guards_hold(), "{}: {step:?} wrote beyond its buffers", E::NAME);
+    assert!(lent.same_cells(&model), "{}: {step:?} on {state:?}, {answer:?}", E::NAME);
     tally[call].count(answer.number);
 }
 
-fn open<E: Engine>(sizes: State, plate: &mut PlateBuffers) -> Answer {
-    let PlateBuffers { planes, pixels, log } = plate;
-    E::open(sizes.width, sizes.height, sizes.reach, planes, pixels, log)
-}
-
-fn change<E: Engine>(state: State, step: &Step, plate: &mut PlateBuffers) -> Answer {
-    let PlateBuffers { planes, pixels, log } = plate;
-    match step {
-        Step::Put(put) => E::put(state, *put, planes, pixels, log),
-        Step::Undo => E::undo(state, planes, pixels, log),
-        Step::Fill(inputs) => E::fill(state, &inputs.as_fill(), planes, pixels, log),
-        Step::Show { .. } => unreachable!("show changes no plate"),
+/// A call of the table above by its place there; an open is no step.
+fn hostile_step(call: usize, maker: &mut Maker) -> Option<Step> {
+    let [scratch, values, mattes] = maker.show_lengths();
+    let kept = maker.kept_lengths();
+    match call {
+        0 => None,
+        1 => Some(Step::Put(maker.put())),
+        2 => Some(Step::Undo),
+        3 => Some(Step::Fill(maker.inputs())),
+        4 => Some(Step::Show { scratch, values, mattes }),
+        5 => Some(Step::PutKept(maker.put(), kept)),
+        6 => Some(Step::UndoKept(kept)),
+        _ => Some(Step::ShowKept { scratch, kept }),
     }
-}
-
-fn show<E: Engine>(state: State, plate: &PlateBuffers, lent: &mut ShowBuffers) -> Answer {
-    let ShowBuffers { scratch, values, mattes } = lent;
-    E::show(state, &plate.planes, scratch, values, mattes)
 }
 
 /// Buffers of the right lengths, mostly, with anything in them.

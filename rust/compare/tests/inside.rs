@@ -3,10 +3,9 @@
 
 use compare::engine::{Engine, Stored};
 use compare::for_each_engine;
-use compare::guard::{Guarded, PlateBuffers};
+use compare::guard::PlateBuffers;
 use compare::random::Random;
 use compare::step::{Inputs, PAPER_LENS};
-use reference::marks::Layout;
 use reference::notebook::Notebook;
 use reference::{Answer, Lens, State};
 
@@ -35,12 +34,7 @@ impl Case {
     /// The number that the fill answers; a refused one must have changed nothing.
     fn number<E: Engine>(&self) -> u32 {
         let random = &mut Random::new(51);
-        let cells = Layout::of(SIZES.width, SIZES.height, SIZES.reach).all_planes();
-        let mut plate = PlateBuffers {
-            planes: Guarded::garbage(cells, random),
-            pixels: Guarded::garbage(PLACES, random),
-            log: Guarded::garbage(ROOM, random),
-        };
+        let mut plate = PlateBuffers::garbage(SIZES, ROOM, random);
         let before = plate.clone();
         let PlateBuffers { planes, pixels, log } = &mut plate;
         let answer = E::fill(self.state, &self.inputs.as_fill(), planes, pixels, log);

@@ -52,7 +52,8 @@ fn long_plates<E: Engine>() {
 }
 
 /// A short list on the greatest plate, 4,096 × 512 with reach 64: a fill of small radii
-/// with some of 64 in between, puts in the corners, undone again.
+/// with some of 64 in between, puts in the corners, undone again; two of the puts and an undo
+/// with kept pictures.
 fn greatest_plate<E: Engine>() {
     let random = &mut Random::new(12);
     let sizes = State { width: 4_096, height: 512, reach: 64, count: 0 };
@@ -71,24 +72,26 @@ fn greatest_plate<E: Engine>() {
         };
     let put =
         |x, y, shape| Step::Put(Put { x, y, value: 4_095, opacity: 255, shape, radius: 64 });
+    let cells = width * height;
     let show = || Step::show(width, height, sizes.reach);
     let steps = [
         Step::Fill(inputs),
-        show(),
-        put(0, 0, 4),
-        put(width - 1, height - 1, 3),
-        put(width, 0, 0),
+        show().kept(cells),
+        put(0, 0, 4).kept(cells),
+        put(width - 1, height - 1, 3).kept(cells),
+        put(width, 0, 0).kept(cells),
         put(0, height - 1, 0),
         show(),
         Step::Undo,
-        Step::Undo,
+        Step::Undo.kept(cells),
     ];
     let tally = &mut Tally::default();
     run::<E>(sizes, 3, &steps, random, tally);
     say(&format!("{}, greatest plate: {tally}", E::NAME));
 }
 
-/// The longest log, filled to its end and undone to its beginning.
+/// The longest log, filled to its end, and undone to its beginning; then both once more by the
+/// calls' second forms.
 fn longest_log<E: Engine>() {
     let random = &mut Random::new(13);
     let sizes = State { width: 5, height: 4, reach: 6, count: 0 };
@@ -99,11 +102,13 @@ fn longest_log<E: Engine>() {
         .collect();
     let show = Step::show(5, 4, 6);
     let undos = vec![Step::Undo; 65_536];
-    let middle: Vec<Step> = [puts.clone(), vec![show.clone()]].concat();
-    let whole: Vec<Step> = [middle.clone(), undos, vec![show]].concat();
+    let middle: Vec<Step> = [puts, vec![show.clone()]].concat();
+    let whole = [vec![show.clone()], middle.clone(), undos, vec![show]].concat();
+    let kept: Vec<Step> = whole.iter().map(|step| step.clone().kept(20)).collect();
     let tally = &mut Tally::default();
-    run::<E>(sizes, 65_535, &middle, random, tally);
-    run::<E>(sizes, 65_535, &whole, random, tally);
+    for steps in [middle, whole, kept] {
+        run::<E>(sizes, 65_535, &steps, random, tally);
+    }
     say(&format!("{}, longest log: {tally}", E::NAME));
 }
 

@@ -2,7 +2,7 @@
 
 use crate::layout::Layout;
 use crate::word::{Pixel, split_entry};
-use crate::{Checked, Lens, State, kernel};
+use crate::{Change, Checked, Lens, State, kernel};
 
 const FARTHEST: u32 = 10_000_000;
 const TOP_LOG: usize = 65_535;
@@ -37,7 +37,7 @@ pub(crate) fn plate(
     Ok(layout)
 }
 
-/// With the pixel that stands at the place. Inlined, as undo's: handing the answer over
+/// With the pixel that stands at the place. Inlined, as undo's: handing the change over
 /// through memory costs more than the checks.
 #[inline]
 pub(crate) fn put(
@@ -48,32 +48,45 @@ pub(crate) fn put(
     planes: &[u64],
     pixels: &[u64],
     log: &[u64],
-) -> Checked<(Layout, Pixel)> {
+) -> Checked<Change> {
     let layout = plate(state, planes, pixels, log)?;
     require(x < state.width && y < state.height, 4)?;
     require(new.value <= TOP_VALUE, 5)?;
     require(kernel::is_shape(new.shape), 6)?;
     require(usize::from(new.radius) <= kernel::top_under(new.shape, state.reach), 7)?;
     require(state.count < log.len(), 8)?;
-    let old = Pixel::from_word(pixels[y * state.width + x], state.reach).ok_or(10u32)?;
-    Ok((layout, old))
+    let place = y * state.width + x;
+    let old = Pixel::from_word(pixels[place], state.reach).ok_or(10u32)?;
+    Ok(Change { layout, place, x, y, old, new })
 }
 
-/// With the place, the pixel that stands there and the one to restore.
+/// With the pixel that stands at the last entry's place and the one to restore.
 #[inline]
 pub(crate) fn undo(
     state: State,
     planes: &[u64],
     pixels: &[u64],
     log: &[u64],
-) -> Checked<(Layout, usize, Pixel, Pixel)> {
+) -> Checked<Change> {
     let layout = plate(state, planes, pixels, log)?;
     require(state.count > 0, 9)?;
     let (place, word) = split_entry(log[state.count - 1]);
     require(place < pixels.len(), 10)?;
     let old = Pixel::from_word(pixels[place], state.reach).ok_or(10u32)?;
     let new = Pixel::from_word(word, state.reach).ok_or(10u32)?;
-    Ok((layout, place, old, new))
+    let (x, y) = (place % state.width, place / state.width);
+    Ok(Change { layout, place, x, y, old, new })
+}
+
+/// 1, and 2 for what is kept: for the calls that mend it, before they look at the plate.
+pub(crate) fn kept(state: State, sums: usize, values: usize, mattes: usize) -> Checked<()> {
+    let layout = sizes(state)?;
+    require(fits(layout, values, mattes) && sums == 2 * values, 2)
+}
+
+fn fits(layout: Layout, values: usize, mattes: usize) -> bool {
+    let cells = layout.width * layout.height;
+    values == cells && mattes == cells
 }
 
 #[expect(clippy::too_many_arguments, reason = "all that fill is lent")]
@@ -114,11 +127,9 @@ pub(crate) fn show(
     mattes: usize,
 ) -> Checked<Layout> {
     let layout = sizes(state)?;
-    let cells = state.width * state.height;
     let lengths = planes == 14 * layout.cells
         && scratch == 3 * layout.cells
-        && values == cells
-        && mattes == cells;
+        && fits(layout, values, mattes);
     require(lengths, 2)?;
     Ok(layout)
 }

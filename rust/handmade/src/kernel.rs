@@ -10,7 +10,7 @@ const TOP: usize = 64;
 pub(crate) const MARKS: [u32; SHAPES] = [8, 13, 20, 12, 16, 16];
 
 const TOPS: [usize; SHAPES] = [TOP, 8, 3, TOP, TOP, TOP];
-const BOXES: [usize; SHAPES] = [1, 2, 3, 1, 1, 1];
+pub(crate) const BOXES: [usize; SHAPES] = [1, 2, 3, 1, 1, 1];
 
 pub(crate) fn is_shape(shape: u8) -> bool {
     usize::from(shape) < SHAPES
@@ -78,9 +78,9 @@ const fn min(a: u32, b: u32) -> u32 {
 
 /// What a mark of factor 1 is worth.
 #[derive(Clone, Copy)]
-struct Worth {
-    light: u64,
-    matte: u64,
+pub(crate) struct Worth {
+    pub light: u64,
+    pub matte: u64,
 }
 
 impl Worth {
@@ -95,17 +95,26 @@ impl Worth {
     }
 
     #[inline]
-    fn times(self, factor: i64) -> Worth {
+    pub fn plus(self, other: Worth) -> Worth {
+        Worth {
+            light: self.light.wrapping_add(other.light),
+            matte: self.matte.wrapping_add(other.matte),
+        }
+    }
+
+    #[inline]
+    pub fn times(self, factor: i64) -> Worth {
         let factor = factor as u64;
         Worth { light: self.light.wrapping_mul(factor), matte: self.matte.wrapping_mul(factor) }
     }
 }
 
-/// What the marks of a pixel's taps are worth, and those of its centre.
+/// What a pixel adds for each of its taps, and besides at its centre: the worth of the marks
+/// of the one and of the other.
 #[derive(Clone, Copy)]
 pub(crate) struct Worths {
-    taps: Worth,
-    centre: Worth,
+    pub taps: Worth,
+    pub centre: Worth,
 }
 
 impl Worths {

@@ -1,13 +1,15 @@
 //! The paper's method written by hand: marks, then directional sums.
 //!
 //! This is what a careful programmer would write without a prover, and it is the
-//! baseline of the benchmark. The five calls take the same arguments as the C
+//! baseline of the benchmark. The calls take the same arguments as the C
 //! interface, on slices. Put and undo touch the cells of their marks and no others;
 //! fill lays each pixel's marks once; show reads each plane once. Nothing costs more at
-//! a greater radius.
+//! a greater radius, but for the forms of put and undo that mend kept pictures: they
+//! visit each cell that changes.
 
 mod check;
 mod divide;
+mod kept;
 mod kernel;
 mod layout;
 mod show;
@@ -18,7 +20,8 @@ use kernel::{Pen, Worths};
 use layout::Layout;
 use word::Pixel;
 
-pub use show::show;
+pub use kept::{put_kept, undo_kept};
+pub use show::{show, show_kept};
 
 #[derive(Clone, Copy, Debug, Default, PartialEq, Eq)]
 pub struct State {
@@ -45,6 +48,17 @@ pub struct Answer {
 
 /// The number of a refusal, or what the accepted call goes on with.
 type Checked<T> = Result<T, u32>;
+
+/// One pixel exchanged for another.
+#[derive(Clone, Copy)]
+struct Change {
+    layout: Layout,
+    place: usize,
+    x: usize,
+    y: usize,
+    old: Pixel,
+    new: Pixel,
+}
 
 fn refused(number: u32, state: State) -> Answer {
     Answer { number, marks: 0, state }
@@ -86,39 +100,51 @@ pub fn put(
     let new = Pixel { value, opacity, shape, radius };
     match check::put(state, x, y, new, planes, pixels, log) {
         Err(number) => refused(number, state),
-        Ok((layout, old)) => {
-            let place = y * state.width + x;
-            log[state.count] = word::entry(place, pixels[place]);
-            pixels[place] = new.word();
-            let marks = change(planes, layout, x, y, old, new);
-            Answer { number: 0, marks, state: State { count: state.count + 1, ..state } }
-        }
+        Ok(change) => do_put(state, change, planes, pixels, log),
     }
+}
+
+#[inline]
+fn do_put(
+    state: State,
+    change: Change,
+    planes: &mut [u64],
+    pixels: &mut [u64],
+    log: &mut [u64],
+) -> Answer {
+    let Change { place, new, .. } = change;
+    log[state.count] = word::entry(place, pixels[place]);
+    pixels[place] = new.word();
+    let marks = exchange(planes, change);
+    Answer { number: 0, marks, state: State { count: state.count + 1, ..state } }
 }
 
 pub fn undo(state: State, planes: &mut [u64], pixels: &mut [u64], log: &mut [u64]) -> Answer {
     match check::undo(state, planes, pixels, log) {
         Err(number) => refused(number, state),
-        Ok((layout, place, old, new)) => {
-            let count = state.count - 1;
-            log[count] = 0;
-            pixels[place] = new.word();
-            let (x, y) = (place % state.width, place / state.width);
-            let marks = change(planes, layout, x, y, old, new);
-            Answer { number: 0, marks, state: State { count, ..state } }
-        }
+        Ok(change) => do_undo(state, change, planes, pixels, log),
     }
 }
 
-/// Takes the old pixel's marks off and lays the new one's; the table's marks of both.
-fn change(
+#[inline]
+fn do_undo(
+    state: State,
+    change: Change,
     planes: &mut [u64],
-    layout: Layout,
-    x: usize,
-    y: usize,
-    old: Pixel,
-    new: Pixel,
-) -> u32 {
+    pixels: &mut [u64],
+    log: &mut [u64],
+) -> Answer {
+    let Change { place, new, .. } = change;
+    let count = state.count - 1;
+    log[count] = 0;
+    pixels[place] = new.word();
+    let marks = exchange(planes, change);
+    Answer { number: 0, marks, state: State { count, ..state } }
+}
+
+/// Takes the old pixel's marks off and lays the new one's; the table's marks of both.
+fn exchange(planes: &mut [u64], change: Change) -> u32 {
+    let Change { layout, x, y, old, new, .. } = change;
     let centre = layout.centre(x, y);
     kernel::lay(planes, layout, centre, old, Worths::of(old).negated());
     kernel::lay(planes, layout, centre, new, Worths::of(new));

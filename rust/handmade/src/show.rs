@@ -22,60 +22,86 @@ pub fn show(
     match check::show(state, planes.len(), scratch.len(), values.len(), mattes.len()) {
         Err(number) => refused(number, state),
         Ok(layout) => {
-            draw(layout, planes, scratch, values, mattes);
+            draw(layout, planes, scratch, Image { values, mattes, sums: None });
             scratch.fill(0);
             Answer { number: 0, marks: 0, state }
         }
     }
 }
 
-fn draw<'a>(
-    layout: Layout,
-    planes: &'a [u64],
-    mut scratch: &'a mut [u64],
+/// Show that hands the finished sums out too, all light ones by place, then all matte ones.
+pub fn show_kept(
+    state: State,
+    planes: &[u64],
+    scratch: &mut [u64],
     values: &mut [u16],
     mattes: &mut [u8],
-) {
-    let (light, matte) = planes.split_at(planes.len() / 2);
-    let mut light = Sums::new(layout, light, &mut scratch);
-    let mut matte = Sums::new(layout, matte, &mut scratch);
-    pass(layout, &mut light, &mut matte, values, mattes);
-    if light.missed_totals() || matte.missed_totals() {
-        light.start_with_totals();
-        matte.start_with_totals();
-        pass(layout, &mut light, &mut matte, values, mattes);
+    sums: &mut [u64],
+) -> Answer {
+    let checked = check::kept(state, sums.len(), values.len(), mattes.len()).and_then(|()| {
+        check::show(state, planes.len(), scratch.len(), values.len(), mattes.len())
+    });
+    match checked {
+        Err(number) => refused(number, state),
+        Ok(layout) => {
+            let sums = Some(sums.split_at_mut(values.len()));
+            draw(layout, planes, scratch, Image { values, mattes, sums });
+            scratch.fill(0);
+            Answer { number: 0, marks: 0, state }
+        }
     }
 }
 
-/// Reads the planes and writes both pictures.
-fn pass(
-    layout: Layout,
-    light: &mut Sums,
-    matte: &mut Sums,
-    values: &mut [u16],
-    mattes: &mut [u8],
-) {
-    let image = layout.margin..layout.image_end_row();
-    for row in 0..image.end {
+/// What a show writes, the sums in its second form only.
+struct Image<'a> {
+    values: &'a mut [u16],
+    mattes: &'a mut [u8],
+    sums: Option<(&'a mut [u64], &'a mut [u64])>,
+}
+
+impl Image<'_> {
+    /// Writes the row that starts at this cell, from its finished sums.
+    fn write_row(&mut self, first: usize, light: &[u64], matte: &[u64]) {
+        let cells = first..first + light.len();
+        if let Some((kept_light, kept_matte)) = &mut self.sums {
+            kept_light[cells.clone()].copy_from_slice(light);
+            kept_matte[cells.clone()].copy_from_slice(matte);
+        }
+        round(light, matte, &mut self.values[cells.clone()], &mut self.mattes[cells]);
+    }
+}
+
+fn draw<'a>(layout: Layout, planes: &'a [u64], mut scratch: &'a mut [u64], mut image: Image) {
+    let (light, matte) = planes.split_at(planes.len() / 2);
+    let mut light = Sums::new(layout, light, &mut scratch);
+    let mut matte = Sums::new(layout, matte, &mut scratch);
+    pass(layout, &mut light, &mut matte, &mut image);
+    if light.missed_totals() || matte.missed_totals() {
+        light.start_with_totals();
+        matte.start_with_totals();
+        pass(layout, &mut light, &mut matte, &mut image);
+    }
+}
+
+/// Reads the planes and writes both pictures, and the sums where they are wanted.
+fn pass(layout: Layout, light: &mut Sums, matte: &mut Sums, image: &mut Image) {
+    let shown = layout.margin..layout.image_end_row();
+    for row in 0..shown.end {
         light.add_row(row);
         matte.add_row(row);
-        if image.contains(&row) {
-            let first = (row - image.start) * layout.width;
-            round(
-                &light.down[layout.margin..],
-                &matte.down[layout.margin..],
-                &mut values[first..][..layout.width],
-                &mut mattes[first..][..layout.width],
-            );
+        if shown.contains(&row) {
+            let first = (row - shown.start) * layout.width;
+            image.write_row(first, &light.down[layout.margin..], &matte.down[layout.margin..]);
         }
     }
-    for row in image.end..layout.rows {
+    for row in shown.end..layout.rows {
         light.leave_row(row);
         matte.leave_row(row);
     }
 }
 
-fn round(light: &[u64], matte: &[u64], values: &mut [u16], mattes: &mut [u8]) {
+/// Both pictures from the finished sums.
+pub(crate) fn round(light: &[u64], matte: &[u64], values: &mut [u16], mattes: &mut [u8]) {
     let shown = values.iter_mut().zip(mattes);
     for ((value, shown_matte), (&light, &matte)) in shown.zip(light.iter().zip(matte)) {
         *value = match matte {

@@ -204,6 +204,54 @@ impl Plate {
         Ok(())
     }
 
+    /// Show into pictures and sums of the plate's size.
+    pub(crate) fn show_kept(&mut self, sums: &mut [u64], pictures: &mut Pictures) {
+        let Plate { state, planes, scratch, .. } = self;
+        let Pictures { values, mattes } = pictures;
+        let answer = raw::show_kept(*state, planes, scratch, values, mattes, sums);
+        self.take(answer).expect("sums and pictures have the plate's size");
+    }
+
+    /// Put that mends sums and pictures of the plate's size.
+    pub(crate) fn put_kept(
+        &mut self,
+        x: usize,
+        y: usize,
+        pixel: Pixel,
+        sums: &mut [u64],
+        pictures: &mut Pictures,
+    ) -> Result<u32, Refusal> {
+        let Plate { state, planes, pixels, log, .. } = self;
+        let answer = raw::put_kept(
+            *state,
+            x,
+            y,
+            pixel.value,
+            pixel.opacity,
+            pixel.shape.number(),
+            pixel.radius,
+            planes,
+            pixels,
+            log,
+            sums,
+            &mut pictures.values,
+            &mut pictures.mattes,
+        );
+        self.take(answer)
+    }
+
+    /// Undo that mends sums and pictures of the plate's size.
+    pub(crate) fn undo_kept(
+        &mut self,
+        sums: &mut [u64],
+        pictures: &mut Pictures,
+    ) -> Result<u32, Refusal> {
+        let Plate { state, planes, pixels, log, .. } = self;
+        let Pictures { values, mattes } = pictures;
+        let answer = raw::undo_kept(*state, planes, pixels, log, sums, values, mattes);
+        self.take(answer)
+    }
+
     /// Keeps the state of an accepted call, and gives its mark count.
     fn take(&mut self, answer: Answer) -> Result<u32, Refusal> {
         if answer.number == 0 {

@@ -104,6 +104,58 @@ unsafe extern "C" {
         mattes: *mut u8,
         mattes_len: usize,
     ) -> Answer;
+
+    pub fn lens_show_kept(
+        state: State,
+        planes: *const u64,
+        planes_len: usize,
+        scratch: *mut u64,
+        scratch_len: usize,
+        values: *mut u16,
+        values_len: usize,
+        mattes: *mut u8,
+        mattes_len: usize,
+        sums: *mut u64,
+        sums_len: usize,
+    ) -> Answer;
+
+    pub fn lens_put_kept(
+        state: State,
+        x: usize,
+        y: usize,
+        value: u16,
+        opacity: u8,
+        shape: u8,
+        radius: u8,
+        planes: *mut u64,
+        planes_len: usize,
+        pixels: *mut u64,
+        pixels_len: usize,
+        log: *mut u64,
+        log_len: usize,
+        sums: *mut u64,
+        sums_len: usize,
+        values: *mut u16,
+        values_len: usize,
+        mattes: *mut u8,
+        mattes_len: usize,
+    ) -> Answer;
+
+    pub fn lens_undo_kept(
+        state: State,
+        planes: *mut u64,
+        planes_len: usize,
+        pixels: *mut u64,
+        pixels_len: usize,
+        log: *mut u64,
+        log_len: usize,
+        sums: *mut u64,
+        sums_len: usize,
+        values: *mut u16,
+        values_len: usize,
+        mattes: *mut u8,
+        mattes_len: usize,
+    ) -> Answer;
 }
 
 /// The answer of a put or an undo, its state taken number by number, as the engine wrote
@@ -156,7 +208,7 @@ pub fn put(
     pixels: &mut [u64],
     log: &mut [u64],
 ) -> Answer {
-    let answer = unsafe {
+    taken(unsafe {
         lens_put(
             state,
             x,
@@ -172,13 +224,12 @@ pub fn put(
             log.as_mut_ptr(),
             log.len(),
         )
-    };
-    taken(answer)
+    })
 }
 
 #[inline]
 pub fn undo(state: State, planes: &mut [u64], pixels: &mut [u64], log: &mut [u64]) -> Answer {
-    let answer = unsafe {
+    taken(unsafe {
         lens_undo(
             state,
             planes.as_mut_ptr(),
@@ -188,8 +239,7 @@ pub fn undo(state: State, planes: &mut [u64], pixels: &mut [u64], log: &mut [u64
             log.as_mut_ptr(),
             log.len(),
         )
-    };
-    taken(answer)
+    })
 }
 
 #[inline]
@@ -247,4 +297,101 @@ pub fn show(
             mattes.len(),
         )
     }
+}
+
+#[inline]
+pub fn show_kept(
+    state: State,
+    planes: &[u64],
+    scratch: &mut [u64],
+    values: &mut [u16],
+    mattes: &mut [u8],
+    sums: &mut [u64],
+) -> Answer {
+    unsafe {
+        lens_show_kept(
+            state,
+            planes.as_ptr(),
+            planes.len(),
+            scratch.as_mut_ptr(),
+            scratch.len(),
+            values.as_mut_ptr(),
+            values.len(),
+            mattes.as_mut_ptr(),
+            mattes.len(),
+            sums.as_mut_ptr(),
+            sums.len(),
+        )
+    }
+}
+
+#[inline]
+#[expect(clippy::too_many_arguments, reason = "those of the C interface")]
+pub fn put_kept(
+    state: State,
+    x: usize,
+    y: usize,
+    value: u16,
+    opacity: u8,
+    shape: u8,
+    radius: u8,
+    planes: &mut [u64],
+    pixels: &mut [u64],
+    log: &mut [u64],
+    sums: &mut [u64],
+    values: &mut [u16],
+    mattes: &mut [u8],
+) -> Answer {
+    taken(unsafe {
+        lens_put_kept(
+            state,
+            x,
+            y,
+            value,
+            opacity,
+            shape,
+            radius,
+            planes.as_mut_ptr(),
+            planes.len(),
+            pixels.as_mut_ptr(),
+            pixels.len(),
+            log.as_mut_ptr(),
+            log.len(),
+            sums.as_mut_ptr(),
+            sums.len(),
+            values.as_mut_ptr(),
+            values.len(),
+            mattes.as_mut_ptr(),
+            mattes.len(),
+        )
+    })
+}
+
+#[inline]
+pub fn undo_kept(
+    state: State,
+    planes: &mut [u64],
+    pixels: &mut [u64],
+    log: &mut [u64],
+    sums: &mut [u64],
+    values: &mut [u16],
+    mattes: &mut [u8],
+) -> Answer {
+    taken(unsafe {
+        lens_undo_kept(
+            state,
+            planes.as_mut_ptr(),
+            planes.len(),
+            pixels.as_mut_ptr(),
+            pixels.len(),
+            log.as_mut_ptr(),
+            log.len(),
+            sums.as_mut_ptr(),
+            sums.len(),
+            values.as_mut_ptr(),
+            values.len(),
+            mattes.as_mut_ptr(),
+            mattes.len(),
+        )
+    })
 }

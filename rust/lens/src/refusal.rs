@@ -5,8 +5,9 @@ use std::fmt;
 
 /// A refused call. It changed nothing.
 ///
-/// A [`Plate`](crate::Plate) never gives `LogCount`, `Shape` and `StoredWord`: its own
-/// buffers and the type of shapes rule them out. They are for users of [`raw`](crate::raw).
+/// A [`Plate`](crate::Plate) never gives `LogCount`, `Shape` and `StoredWord`, nor does a
+/// [`Canvas`](crate::Canvas): its own buffers and the type of shapes rule them out. They are
+/// for users of [`raw`](crate::raw).
 #[derive(Clone, Copy, Debug, PartialEq, Eq, Hash)]
 pub enum Refusal {
     Sizes = 1,

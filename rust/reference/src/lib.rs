@@ -17,8 +17,10 @@
 //! | [`marks`] | Marks |
 //! | [`table`] | Refused calls |
 //! | [`stored`] | Calls: what each call leaves, whatever it was lent |
+//! | [`kept`] | Refresh under the brush: sums and pictures that a change mends |
 //! | [`records`] | Records |
 
+pub mod kept;
 pub mod kernel;
 pub mod marks;
 pub mod notebook;

@@ -3,6 +3,7 @@
 //! It is fed the calls' arguments and the lengths of what they lend, and nothing
 //! that an engine stores or answers.
 
+use crate::kept::KeptLengths;
 use crate::kernel::Shape;
 use crate::pixel::Pixel;
 use crate::radius::FARTHEST;
@@ -72,6 +73,26 @@ impl Notebook {
         }
     }
 
+    /// Put in its second form: as put, but lent sums and pictures of these lengths.
+    pub fn put_kept(&mut self, put: Put, lent: KeptLengths) -> Report {
+        if self.does_not_fit(lent) {
+            return Report::refused(2);
+        }
+        self.put(put)
+    }
+
+    /// Undo in its second form.
+    pub fn undo_kept(&mut self, lent: KeptLengths) -> Report {
+        if self.does_not_fit(lent) {
+            return Report::refused(2);
+        }
+        self.undo()
+    }
+
+    fn does_not_fit(&self, lent: KeptLengths) -> bool {
+        lent != KeptLengths::of(self.grid.pixels.len())
+    }
+
     /// Sets one pixel, and reports the marks of the shape that left and of the one that came.
     fn change(&mut self, place: usize, pixel: Pixel) -> Report {
         let old = std::mem::replace(&mut self.grid.pixels[place], pixel);
@@ -125,5 +146,13 @@ impl Notebook {
             return (Report::refused(2), None);
         }
         (Report::accepted(0), Some(pictures(&self.grid)))
+    }
+
+    /// Show in its second form: the sums that it leaves are the plain ones of the grid.
+    pub fn show_kept(&self, scratch: usize, lent: KeptLengths) -> (Report, Option<Pictures>) {
+        if self.does_not_fit(lent) {
+            return (Report::refused(2), None);
+        }
+        self.show(scratch, lent.values, lent.mattes)
     }
 }

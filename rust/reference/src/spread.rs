@@ -37,22 +37,34 @@ pub struct Pictures {
 
 /// At each image cell, the sums of all that the pixels add there, rounded.
 pub fn pictures(grid: &Grid) -> Pictures {
-    let mut sums = vec![Sum::default(); grid.pixels.len()];
-    for (x, y, pixel) in grid.places() {
-        spread(pixel, x, y, grid.width, grid.height, &mut sums);
-    }
+    let sums = spread_all(grid);
     Pictures {
         values: sums.iter().map(|sum| shown_value(sum.light, sum.matte)).collect(),
         mattes: sums.iter().map(|sum| shown_matte(sum.matte)).collect(),
     }
 }
 
+/// These sums themselves: all light ones by place, then all matte ones.
+pub fn sums(grid: &Grid) -> Vec<u64> {
+    let sums = spread_all(grid);
+    let light = sums.iter().map(|sum| sum.light);
+    light.chain(sums.iter().map(|sum| sum.matte)).collect()
+}
+
+fn spread_all(grid: &Grid) -> Vec<Sum> {
+    let mut sums = vec![Sum::default(); grid.pixels.len()];
+    for (x, y, pixel) in grid.places() {
+        spread(pixel, x, y, grid.width, grid.height, &mut sums);
+    }
+    sums
+}
+
 /// The light and the matte of a cell. Neither can overflow: at most 2^21 pixels
 /// add at most 255 × 2^23 each, in light 4,095 times that.
-#[derive(Clone, Copy, Default)]
-struct Sum {
-    light: u64,
-    matte: u64,
+#[derive(Clone, Copy, Debug, Default, PartialEq, Eq)]
+pub struct Sum {
+    pub light: u64,
+    pub matte: u64,
 }
 
 /// Adds one pixel's kernel to the cells of the image that it reaches: the share for each
@@ -77,7 +89,7 @@ fn spread(pixel: Pixel, x: usize, y: usize, width: usize, height: usize, sums: &
 }
 
 /// What a pixel adds to a cell where its kernel weighs this much.
-fn worth(pixel: Pixel, weight: u64) -> Sum {
+pub(crate) fn worth(pixel: Pixel, weight: u64) -> Sum {
     let matte = u64::from(pixel.opacity) * weight;
     Sum { light: u64::from(pixel.value) * matte, matte }
 }

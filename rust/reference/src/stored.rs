@@ -4,10 +4,10 @@
 //! The notebook covers lists of calls on one plate; this covers hostile states,
 //! lengths and stored cells, where there is no grid behind the plate.
 
+use crate::kept::{Change, Kept};
 use crate::kernel::Shape;
 use crate::marks::{Layout, PLANES, finished, lay};
 use crate::pixel::{Pixel, entry, from_entry};
-use crate::rounding::{shown_matte, shown_value};
 use crate::table::{Call, Plate, expected_refusal};
 use crate::{Answer, Fill, Put, State};
 
@@ -17,7 +17,8 @@ fn refused(number: u32, state: State) -> Answer {
 
 pub fn open(sizes: State, planes: &mut [u64], pixels: &mut [u64], log: &mut [u64]) -> Answer {
     let state = State { count: 0, ..sizes };
-    match expected_refusal(Call::Open, state, Plate { planes: planes.len(), pixels, log }) {
+    let plate = Plate { planes: planes.len(), pixels, log, kept: None };
+    match expected_refusal(Call::Open, state, plate) {
         0 => {
             planes.fill(0);
             pixels.fill(0);
@@ -35,7 +36,30 @@ pub fn put(
     pixels: &mut [u64],
     log: &mut [u64],
 ) -> Answer {
-    let plate = Plate { planes: planes.len(), pixels, log };
+    put_and_mend(state, put, planes, pixels, log, None)
+}
+
+pub fn put_kept(
+    state: State,
+    put: Put,
+    planes: &mut [u64],
+    pixels: &mut [u64],
+    log: &mut [u64],
+    kept: Kept,
+) -> Answer {
+    put_and_mend(state, put, planes, pixels, log, Some(kept))
+}
+
+fn put_and_mend(
+    state: State,
+    put: Put,
+    planes: &mut [u64],
+    pixels: &mut [u64],
+    log: &mut [u64],
+    kept: Option<Kept>,
+) -> Answer {
+    let lengths = kept.as_ref().map(Kept::lengths);
+    let plate = Plate { planes: planes.len(), pixels, log, kept: lengths };
     match expected_refusal(Call::Put(put), state, plate) {
         0 => {}
         number => return refused(number, state),
@@ -45,12 +69,34 @@ pub fn put(
     let shape = Shape::from_number(put.shape).expect("not refused");
     let new = Pixel { value: put.value, opacity: put.opacity, shape, radius: put.radius };
     log[state.count] = entry(place, old);
-    let marks = change(state, place, old, new, planes, pixels);
+    let marks = change(state, Change { place, old, new }, planes, pixels, kept);
     Answer { number: 0, marks, state: State { count: state.count + 1, ..state } }
 }
 
 pub fn undo(state: State, planes: &mut [u64], pixels: &mut [u64], log: &mut [u64]) -> Answer {
-    match expected_refusal(Call::Undo, state, Plate { planes: planes.len(), pixels, log }) {
+    undo_and_mend(state, planes, pixels, log, None)
+}
+
+pub fn undo_kept(
+    state: State,
+    planes: &mut [u64],
+    pixels: &mut [u64],
+    log: &mut [u64],
+    kept: Kept,
+) -> Answer {
+    undo_and_mend(state, planes, pixels, log, Some(kept))
+}
+
+fn undo_and_mend(
+    state: State,
+    planes: &mut [u64],
+    pixels: &mut [u64],
+    log: &mut [u64],
+    kept: Option<Kept>,
+) -> Answer {
+    let lengths = kept.as_ref().map(Kept::lengths);
+    let plate = Plate { planes: planes.len(), pixels, log, kept: lengths };
+    match expected_refusal(Call::Undo, state, plate) {
         0 => {}
         number => return refused(number, state),
     }
@@ -58,7 +104,7 @@ pub fn undo(state: State, planes: &mut [u64], pixels: &mut [u64], log: &mut [u64
     let (place, new) = from_entry(log[last], pixels.len(), state.reach).expect("not refused");
     let old = pixel_of(pixels[place], state);
     log[last] = 0;
-    let marks = change(state, place, old, new, planes, pixels);
+    let marks = change(state, Change { place, old, new }, planes, pixels, kept);
     Answer { number: 0, marks, state: State { count: last, ..state } }
 }
 
@@ -66,20 +112,24 @@ fn pixel_of(word: u64, state: State) -> Pixel {
     Pixel::from_word(word, state.reach).expect("not refused")
 }
 
-/// Takes the old pixel's marks off, sets the new pixel, and counts the table's marks of both.
+/// Takes the old pixel's marks off, sets the new pixel, mends what is kept if the call is lent
+/// that, and counts the table's marks of both.
 fn change(
     state: State,
-    place: usize,
-    old: Pixel,
-    new: Pixel,
+    change: Change,
     planes: &mut [u64],
     pixels: &mut [u64],
+    kept: Option<Kept>,
 ) -> u32 {
+    let Change { place, old, new } = change;
     let layout = Layout::of(state.width, state.height, state.reach);
     let (x, y) = (place % state.width, place / state.width);
     lay(planes, layout, x, y, old, -1);
     lay(planes, layout, x, y, new, 1);
     pixels[place] = new.word();
+    if let Some(mut kept) = kept {
+        kept.mend(state.width, change);
+    }
     old.shape.marks() + new.shape.marks()
 }
 
@@ -90,7 +140,7 @@ pub fn fill(
     pixels: &mut [u64],
     log: &mut [u64],
 ) -> Answer {
-    let plate = Plate { planes: planes.len(), pixels, log };
+    let plate = Plate { planes: planes.len(), pixels, log, kept: None };
     match expected_refusal(Call::Fill(*fill), state, plate) {
         0 => {}
         number => return refused(number, state),
@@ -122,18 +172,42 @@ pub fn show(
 ) -> Answer {
     let lengths =
         Call::Show { scratch: scratch.len(), values: values.len(), mattes: mattes.len() };
-    let plate = Plate { planes: planes.len(), pixels: &[], log: &[] };
+    let plate = Plate { planes: planes.len(), pixels: &[], log: &[], kept: None };
     match expected_refusal(lengths, state, plate) {
         0 => {}
         number => return refused(number, state),
     }
-    let layout = Layout::of(state.width, state.height, state.reach);
-    let (light, matte) = planes.split_at(PLANES * layout.cells());
-    let sums = finished(light, layout).into_iter().zip(finished(matte, layout));
-    for (place, (light, matte)) in sums.enumerate() {
-        values[place] = shown_value(light, matte);
-        mattes[place] = shown_matte(matte);
-    }
+    let mut sums = finished_sums(state, planes);
+    draw(Kept { sums: &mut sums, values, mattes });
     scratch.fill(0);
     Answer { number: 0, marks: 0, state }
+}
+
+pub fn show_kept(state: State, planes: &[u64], scratch: &mut [u64], kept: Kept) -> Answer {
+    let lent = kept.lengths();
+    let lengths =
+        Call::Show { scratch: scratch.len(), values: lent.values, mattes: lent.mattes };
+    let plate = Plate { planes: planes.len(), pixels: &[], log: &[], kept: Some(lent) };
+    match expected_refusal(lengths, state, plate) {
+        0 => {}
+        number => return refused(number, state),
+    }
+    kept.sums.copy_from_slice(&finished_sums(state, planes));
+    draw(kept);
+    scratch.fill(0);
+    Answer { number: 0, marks: 0, state }
+}
+
+/// The finished sums of the image cells, all light ones by place, then all matte ones.
+fn finished_sums(state: State, planes: &[u64]) -> Vec<u64> {
+    let layout = Layout::of(state.width, state.height, state.reach);
+    let (light, matte) = planes.split_at(PLANES * layout.cells());
+    [finished(light, layout), finished(matte, layout)].concat()
+}
+
+/// Both pictures from the sums.
+fn draw(mut kept: Kept) {
+    for cell in 0..kept.values.len() {
+        kept.round(cell);
+    }
 }

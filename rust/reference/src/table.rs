@@ -1,5 +1,6 @@
 //! The table of refused calls, read directly: for any state and anything lent.
 
+use crate::kept::KeptLengths;
 use crate::kernel::Shape;
 use crate::marks::Layout;
 use crate::pixel::{Pixel, from_entry};
@@ -23,12 +24,14 @@ pub enum Call<'a> {
 }
 
 /// What calls are lent of the plate: the planes' length, and pixels and log themselves.
-/// Show is lent no pixels and no log: whatever stands here is not looked at.
+/// Show is lent no pixels and no log: whatever stands here is not looked at. The second form
+/// of a call is told from the first by what it is lent to keep.
 #[derive(Clone, Copy, Debug)]
 pub struct Plate<'a> {
     pub planes: usize,
     pub pixels: &'a [u64],
     pub log: &'a [u64],
+    pub kept: Option<KeptLengths>,
 }
 
 /// The longest log.
@@ -75,16 +78,18 @@ fn wrong_length(call: Call, state: State, plate: Plate) -> bool {
     let layout = Layout::of(state.width, state.height, state.reach);
     let cells = state.width * state.height;
     let planes = plate.planes != layout.all_planes();
+    let kept = plate.kept.is_some_and(|lengths| lengths != KeptLengths::of(cells));
     let pixels = plate.pixels.len() != cells;
     let log = plate.log.len() > TOP_LOG;
     match call {
-        Call::Open | Call::Put(_) | Call::Undo => planes || pixels || log,
+        Call::Open | Call::Put(_) | Call::Undo => planes || pixels || log || kept,
         Call::Fill(fill) => {
             let inputs = [fill.values.len(), fill.opacities.len(), fill.depths.len()];
             planes || pixels || log || inputs.iter().any(|&length| length != cells)
         }
         Call::Show { scratch, values, mattes } => {
-            planes || scratch != 3 * layout.cells() || values != cells || mattes != cells
+            let scratch = scratch != 3 * layout.cells();
+            planes || scratch || values != cells || mattes != cells || kept
         }
     }
 }

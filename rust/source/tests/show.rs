@@ -9,8 +9,13 @@ use source::walk::{Fault, Walk, What};
 use std::collections::BTreeSet;
 use std::io::Write;
 
-/// Show, and show from C.
-const SHOWS: [&str; 2] = ["plate::show::show", "lens_c::lens_show"];
+/// Show in both forms, and both from C.
+const SHOWS: [&str; 4] = [
+    "plate::show::show",
+    "lens_c::lens_show",
+    "plate::kept::show_kept",
+    "lens_c::lens_show_kept",
+];
 
 /// The crate that reaches all of them.
 const LAST: &str = "lens_c";
@@ -108,17 +113,22 @@ fn a_call_that_is_renamed_is_not_found() {
 #[test]
 fn a_function_that_is_renamed_or_not_brought_in_is_not_found() {
     let engine = engine();
-    for (file, old, new) in [
-        ("plate/src/clear.rt", "pub(crate) fn clear(", "pub(crate) fn clean("),
-        ("plate/src/show.rt", "use crate::clear::clear;", ""),
+    let [show_all, keep_all, lay_both] =
+        ["plate::show::show_all", "plate::kept::keep_all", "plate::show::lay_both"];
+    let (definition, renamed) = ("pub(crate) fn clear(", "pub(crate) fn clean(");
+    let import = "use crate::clear::clear;";
+    for (file, old, new, callers) in [
+        ("plate/src/clear.rt", definition, renamed, &[show_all, keep_all, lay_both][..]),
+        ("plate/src/show.rt", import, "", &[show_all, lay_both]),
+        ("plate/src/kept.rt", import, "", &[keep_all]),
     ] {
         let at = engine.text(file).and_then(|text| text.find(old)).expect("the old text");
         let faults =
             faults(&engine.edited(file, at, old, new)).expect("a copy that can be read");
         let lost = What::NotFound("clear".into());
-        let callers: Vec<&str> = faults.iter().map(|fault| fault.item.as_str()).collect();
+        let told: Vec<&str> = faults.iter().map(|fault| fault.item.as_str()).collect();
         assert!(faults.iter().all(|fault| fault.what == lost), "{faults:#?}");
-        assert_eq!(callers, ["plate::show::show_all", "plate::show::lay_both"]);
+        assert_eq!(told, callers, "{file}");
     }
 }
 

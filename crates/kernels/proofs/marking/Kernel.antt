@@ -149,9 +149,9 @@ tap-kernel Octagon r X Y x y p q =
 
 -- THE CENTRE
 -- a box of radius 0 is 1 at the centre
-centre-tap : (dx dy : ℕ) → boxTap 1 0 dx * boxTap 1 0 dy ≡ same dx 0 (same dy 0 1)
+point-tap : (dx dy : ℕ) → boxTap 1 0 dx * boxTap 1 0 dy ≡ same dx 0 (same dy 0 1)
 unfolding tap
-centre-tap dx dy =
+point-tap dx dy =
     sym (box-tap 0 dx dy)
     ∙ within-same dx (within dy 0 1)
     ∙ ap (same dx 0) (within-same dy 1)
@@ -163,7 +163,7 @@ centre-kernel : (c X Y x y : ℕ)
     → c * finish (planesOf (centreMarks X Y)) x y % 2 ^ 64 ≡ same (dist x X) 0 (same (dist y Y) 0 c) % 2 ^ 64
 unfolding centreMarks
 centre-kernel c X Y x y =
-    cong-mul (2 ^ 64) c c _ _ refl (box-kernel first 0 X Y x y (omega arith) (omega arith) ∙ ap (λ (n : ℕ). n % 2 ^ 64) (centre-tap dx dy))
+    cong-mul (2 ^ 64) c c _ _ refl (box-kernel first 0 X Y x y (omega arith) (omega arith) ∙ ap (λ (n : ℕ). n % 2 ^ 64) (point-tap dx dy))
     ∙ ap (λ (n : ℕ). n % 2 ^ 64) (sym (same-mul c dx 0 (same dy 0 1)) ∙ ap (same dx 0) (sym (same-mul c dy 0 1) ∙ ap (same dy 0) (omega arith)))
   where
     dx : ℕ

@@ -69,7 +69,7 @@ alone-at c (m ∷ ms) h p x y =
 pub alone : (c : ℕ) (ms : List Mark) → Each (λ m. m .plane ≡ c) ms → planesOf ms ≡ only c (planesOf ms c)
 alone c ms h = fun-ext (λ p. fun-ext (λ x. fun-ext (λ y. alone-at c ms h p x y)))
 
-scaled-at : (c : ℕ) (ms : List Mark) (p x y : ℕ) → planesOf (scaled c ms) p x y ≡ c * planesOf ms p x y
+pub scaled-at : (c : ℕ) (ms : List Mark) (p x y : ℕ) → planesOf (scaled c ms) p x y ≡ c * planesOf ms p x y
 unfolding planesOf scaled
 scaled-at c [] p x y = omega arith
 scaled-at c (m ∷ ms) p x y =

@@ -84,7 +84,7 @@ taps-dist n r i = rw (add-one (2 * r)) (by-lt i (n * r) left right)
     right g = ap (convolved n (suc (2 * r)) one) (omega arith)
 
 -- one box is 1 up to its radius
-one-box : (r d : ℕ) → boxTap 1 r d ≡ within d r 1
+pub one-box : (r d : ℕ) → boxTap 1 r d ≡ within d r 1
 unfolding boxTap convolved
 one-box r d = box-one (2 * r + 1) (1 * r + d) ∙ within-as _ _ d r 1 (omega arith) (omega arith)
 

@@ -15,7 +15,7 @@ use Rattle.plate.proofs.numbers.Extents.{row-of}
 use Rattle.plate.proofs.checks.Accepted.{PlateAccepted, plate-accepted, AskAccepted, ask-accepted, asked-fits, some-accepted}
 use Rattle.plate.proofs.words.Words.{read-fits, read-word, word-small, entry-read}
 
-no-change : {P : Type 0} (f : Refusal) (c : Change) → NoChange f ≡ ToChange c → P
+pub no-change : {P : Type 0} (f : Refusal) (c : Change) → NoChange f ≡ ToChange c → P
 no-change f c e = let z : _≡_ {A = ℕ} 0 1 = cc in absurd (omega arith)
 
 -- PUT

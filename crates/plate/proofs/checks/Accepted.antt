@@ -8,16 +8,16 @@ use Rattle.kernels.specs.Shape.{shapeOf, topUnder}
 use Rattle.kernels.specs.declared.lens.Lens.{Lens as LensOf}
 use Rattle.kernels.specs.Lens.{lawfulLens}
 use Rattle.kernels.specs.Fixed.{valueTop, depthTop}
-use Rattle.plate.specs.Layout.{Size, padded, places}
+use Rattle.plate.specs.Layout.{Size, padded, places, sumsInAll}
 use Rattle.plate.specs.Lent.{State, Sized, Ask, Inputs}
-use Rattle.plate.specs.Refusal.{Outcome, Accepted, Value, Depth, sizesCheck, lentCheck, askCheck, layerCheck, viewsCheck, showCheck, plateCheck, emptyCheck}
+use Rattle.plate.specs.Refusal.{Outcome, Accepted, Value, Depth, sizesCheck, lentCheck, askCheck, layerCheck, viewsCheck, showCheck, plateCheck, emptyCheck, canvasCheck, keptCheck}
 use Rattle.plate.specs.Change.{askedPlace, knownShape, askedPixel}
 use Rattle.plate.specs.code.Bounds.{LawfulSize, LentFor, Fits}
 use Rattle.plate.specs.Fixed.{planesInAll, scratchPlanes}
 use Rattle.plate.specs.code.Filling.{fillLengths}
 use Rattle.plate.proofs.numbers.Extents.{place-within}
 use Rattle.plate.proofs.checks.Rows.{check-passed}
-use Rattle.plate.proofs.checks.Conditions.{inputs-checks, views-checks, count-checks, place-checks, value-checks, shape-checks, radius-checks, radius-under, full-checks, empty-checks, above-checks, lens-checks}
+use Rattle.plate.proofs.checks.Conditions.{inputs-checks, views-checks, canvas-checks, count-checks, place-checks, value-checks, shape-checks, radius-checks, radius-under, full-checks, empty-checks, above-checks, lens-checks}
 use Rattle.plate.proofs.checks.Passed.{sizes-passed, lent-passed}
 
 -- the plate's checks, whatever comes after them
@@ -140,3 +140,17 @@ show-accepted s planes scratch values mattes e =
       values-are = q .1 .1 .0;
       mattes-are = q .1 .1 .1;
     }
+
+-- 1, and 2 of kept sums and pictures
+pub record KeptAccepted (z : Size) (sums values mattes : ℕ) : Type 0 where
+  pub lawful : LawfulSize z
+  pub sums-are : sums ≡ sumsInAll z
+  pub values-are : values ≡ places z
+  pub mattes-are : mattes ≡ places z
+
+pub kept-accepted : (z : Size) (sums values mattes : ℕ) → keptCheck z sums values mattes ≡ Accepted → KeptAccepted z sums values mattes
+unfolding keptCheck canvasCheck
+kept-accepted z sums values mattes e =
+    let p = sizes-passed z _ e in
+    let q = check-passed (canvas-checks z sums values mattes) Accepted (p .1) .0 in
+    record { lawful = p .0; sums-are = q .0; values-are = q .1 .0; mattes-are = q .1 .1 }

@@ -21,7 +21,7 @@ use Rattle.kernels.proofs.numbers.Choices.{by-test, by-lt, by-eq}
 use Rattle.kernels.proofs.lenses.ThinLens.{Lawful, lens-true, lawful}
 use Rattle.kernels.specs.Fixed.{shapeCount, valueTop}
 use Rattle.plate.specs.Fixed.{planesInAll, scratchPlanes, sideTop, placesTop, reachTop, logTop}
-use Rattle.plate.specs.Layout.{Size, padded, places}
+use Rattle.plate.specs.Layout.{Size, padded, places, sumsInAll}
 use Rattle.plate.specs.Lent.{Sized, Ask}
 use Rattle.plate.specs.Refusal.{Refusal, Sizes, Lengths, LogCount, Place, Value, Shape, Radius, LogFull, LogEmpty, Lens, DepthInside, refuseIf, sizesCheck, lengthCheck, lentCheck, inputsCheck, countCheck, placeCheck, valueCheck, shapeCheck, radiusCheck, fullCheck, emptyCheck, anyOf, anyAbove, isBetween, lensCheck, insideCheck}
 use Rattle.plate.specs.Change.{knownShape}
@@ -88,6 +88,13 @@ views-checks z p s v m =
     checks-both (length-checks p (planesInAll * padded z))
     (checks-both (length-checks s (scratchPlanes * padded z))
     (checks-both (length-checks v (places z)) (length-checks m (places z))))
+
+-- what the second forms of put and undo are lent besides: sums and the pictures
+pub canvas-checks : (z : Size) (s v m : ℕ)
+    → Checks Lengths ((s ≢ sumsInAll z) ⊎ (v ≢ places z) ⊎ (m ≢ places z)) ((s ≡ sumsInAll z) × ((v ≡ places z) × (m ≡ places z)))
+    (λ next. lengthCheck s (sumsInAll z) (lengthCheck v (places z) (lengthCheck m (places z) next)))
+canvas-checks z s v m =
+    checks-both (length-checks s (sumsInAll z)) (checks-both (length-checks v (places z)) (length-checks m (places z)))
 
 -- 3
 pub count-checks : (n room : ℕ) → Checks LogCount (room < n) (n ≤ room) (countCheck n room)

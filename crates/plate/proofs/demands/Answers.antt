@@ -10,14 +10,15 @@ use Rattle.kernels.specs.Rows.{Row, row, FirstOf}
 use Rattle.kernels.specs.declared.lens.Lens.{Lens as LensOf}
 use Rattle.kernels.specs.Shape.{shapeOf}
 use Rattle.plate.specs.Layout.{Size, sizeFrom}
-use Rattle.plate.specs.Lent.{State, stateOf, Lent, sizedAs, Ask, Inputs, Views}
+use Rattle.plate.specs.Lent.{State, stateOf, Lent, sizedAs, Ask, Inputs, Views, Canvas}
 use Rattle.plate.specs.Word.{readWord, readEntry}
-use Rattle.plate.specs.Refusal.{Refusal, Sizes, Lengths, LogCount, Place, Value, Shape, Radius, LogFull, StoredWord, Lens, Depth, DepthInside, Outcome, Accepted, Refused, openCheck, plateCheck, askCheck, putCheck, undoCheck, emptyCheck, fillFirst, layerCheck, fillCheck, viewsCheck, showCheck}
+use Rattle.plate.specs.Refusal.{Refusal, Sizes, Lengths, LogCount, Place, Value, Shape, Radius, LogFull, StoredWord, Lens, Depth, DepthInside, Outcome, Accepted, Refused, openCheck, plateCheck, askCheck, putCheck, undoCheck, emptyCheck, fillFirst, layerCheck, fillCheck, viewsCheck, showCheck, sizesCheck, canvasCheck, keptCheck, showKeptCheck}
 use Rattle.plate.specs.Change.{Change, ChangeRead, ToChange, NoChange, askedPlace, putOver, putReadBy, putRead, undoOver, undoEntry, undoReadBy, undoRead}
 use Rattle.plate.specs.Calls.{Left, refused, Shown, shows, answerOf, openBy, openCall, putBy, putCall, undoBy, undoCall, fillBy, fillCall, showBy, showCall, changed}
-use Rattle.plate.specs.Table.{AnswersBy, SizesOutside, LentWrong, InputsWrong, ViewsWrong, CountAbove, PlaceOutside, ValueAbove, SomeOf, ShapeAbove, RadiusAbove, WordBroken, EntryBroken, placeIn, LensOutside, DepthAbove, InsideLens, LawfulSize, openRows, putRows, undoRows, fillRows, showRows, GoesBy, ShowGoesBy, Orders, Demand1, OpenAccepts}
-use Rattle.plate.proofs.checks.Rows.{refused-not, last-row, andThen, answers-then, first-check, checks-both}
-use Rattle.plate.proofs.checks.Conditions.{sizes-checks, lent-checks, inputs-checks, views-checks, count-checks, place-checks, value-checks, shape-checks, radius-checks, full-checks, empty-checks, above-checks, inside-checks, lens-checks}
+use Rattle.plate.specs.Kept.{Refreshed, leavesKept, keptRead, canvasFirst, canvasBy, putKeptBy, putKeptCall, undoKeptBy, undoKeptCall, sumsBy, ShownKept, showsKept, showKeptBy, showKeptCall}
+use Rattle.plate.specs.Table.{AnswersBy, CanvasWrong, SizesOutside, LentWrong, InputsWrong, ViewsWrong, CountAbove, PlaceOutside, ValueAbove, SomeOf, ShapeAbove, RadiusAbove, WordBroken, EntryBroken, placeIn, LensOutside, DepthAbove, InsideLens, LawfulSize, openRows, putRows, undoRows, fillRows, showRows, putKeptRows, undoKeptRows, showKeptRows, CallBy, GoesBy, ShowGoesBy, KeptGoesBy, ShowKeptGoesBy, Orders, Demand1, OpenAccepts}
+use Rattle.plate.proofs.checks.Rows.{refused-not, last-row, andThen, answers-then, Checks, by-check, check-before, first-check, checks-both}
+use Rattle.plate.proofs.checks.Conditions.{sizes-checks, length-checks, lent-checks, inputs-checks, views-checks, canvas-checks, count-checks, place-checks, value-checks, shape-checks, radius-checks, full-checks, empty-checks, above-checks, inside-checks, lens-checks}
 use Rattle.plate.proofs.checks.Passed.{sizes-pass, lent-pass}
 use Rattle.plate.proofs.checks.Accepted.{plate-accepted}
 use Rattle.plate.proofs.words.Stored.{WordTold, word-told, EntryTold, entry-told}
@@ -39,16 +40,15 @@ module _ {R A : Type 0} (heard : R → Outcome) (outcomeIn : A → Outcome) (ref
   left-is : (r : R) (f : Refusal) → outcomeIn (by r) ≡ Refused f → by r ≡ refusedAs f
   left-is r f e = refuses r f (sym (outcome-is r) ∙ e)
 
+  call-by : (rows : List (Row Refusal)) (r : R) → AnswersBy rows (heard r) → CallBy rows outcomeIn refusedAs (by r)
+  call-by rows r first = record { first = rw (outcome-is r) first; untouched = left-is r }
+
 -- a call of planes, pixels and log
 module _ {R : Type 0} (heard : R → Outcome) (s : State) (l : Lent) (by : R → Left)
     (accepts : (r : R) → heard r ≡ Accepted → by r .answer .outcome ≡ Accepted)
     (refuses : (r : R) (f : Refusal) → heard r ≡ Refused f → by r ≡ refused f s l) where
   goes-by : (rows : List (Row Refusal)) (r : R) → AnswersBy rows (heard r) → GoesBy rows s l (by r)
-  goes-by rows r first =
-      record {
-        first = rw (outcome-is heard (λ (a : Left). a .answer .outcome) (λ f. refused f s l) by accepts refuses (λ f. refl) r) first;
-        untouched = left-is heard (λ (a : Left). a .answer .outcome) (λ f. refused f s l) by accepts refuses (λ f. refl) r;
-      }
+  goes-by = call-by heard (λ (a : Left). a .answer .outcome) (λ f. refused f s l) by accepts refuses (λ f. refl)
 
 -- OPEN
 open-goes : (z : Size) (l : Lent) → GoesBy (openRows z l) (stateOf (sizeFrom 0 0 0) 0) l (openCall z l)
@@ -135,31 +135,40 @@ ask-first z n room a =
     first-check (radius-checks (z .reach) (shapeOf (a .shape)) (a .radius)) _ _ (λ _.
     first-check (full-checks n room) [] Accepted (λ _. last-row)))))
 
-put-goes : (s : State) (a : Ask) (l : Lent) → GoesBy (putRows s a l) s l (putCall s a l)
-unfolding putCall putRead putCheck putBy changed
-put-goes s a l =
+-- what it reads goes by the rows
+put-reads : (s : State) (a : Ask) (l : Lent) → AnswersBy (putRows s a l) (outcomeOf (putRead s a (sizedAs l) (l .pixels)))
+unfolding putRead putCheck
+put-reads s a l =
     let z = s .size in
     let check = plateCheck s (sizedAs l) (askCheck z (s .count) (length (l .log)) a) in
-    goes-by outcomeOf s l (λ r. putBy r s l) (λ r e. rw (change-read r e .1)) (λ r f e. rw (refusal-read r f e)) (putRows s a l)
-    (putReadBy check z a (l .pixels))
-    (rw (put-outcome check z a (l .pixels))
+    rw (put-outcome check z a (l .pixels))
     (answers-then _ _ check _
     (plate-first s l _ _ (λ _. ask-first z (s .count) (length (l .log)) a))
-    (λ _. put-stored z a _ (word-told (z .reach) (getD (l .pixels) (askedPlace z a) 0)))))
+    (λ _. put-stored z a _ (word-told (z .reach) (getD (l .pixels) (askedPlace z a) 0))))
+
+put-goes : (s : State) (a : Ask) (l : Lent) → GoesBy (putRows s a l) s l (putCall s a l)
+unfolding putCall putBy changed
+put-goes s a l =
+    goes-by outcomeOf s l (λ r. putBy r s l) (λ r e. rw (change-read r e .1)) (λ r f e. rw (refusal-read r f e)) (putRows s a l)
+    (putRead s a (sizedAs l) (l .pixels)) (put-reads s a l)
 
 -- UNDO
-undo-goes : (s : State) (l : Lent) → GoesBy (undoRows s l) s l (undoCall s l)
-unfolding undoCall undoRead undoCheck undoBy changed
-undo-goes s l =
+undo-reads : (s : State) (l : Lent) → AnswersBy (undoRows s l) (outcomeOf (undoRead s (sizedAs l) (l .pixels) (l .log)))
+unfolding undoRead undoCheck
+undo-reads s l =
     let z = s .size in
     let check = plateCheck s (sizedAs l) (emptyCheck (s .count) Accepted) in
-    goes-by outcomeOf s l (λ r. undoBy r s l) (λ r e. rw (change-read r e .1)) (λ r f e. rw (refusal-read r f e)) (undoRows s l)
-    (undoReadBy check s (l .pixels) (l .log))
-    (rw (undo-outcome check s (l .pixels) (l .log))
+    rw (undo-outcome check s (l .pixels) (l .log))
     (answers-then _ _ check _
     (plate-first s l _ _ (λ _. first-check (empty-checks (s .count)) [] Accepted (λ _. last-row)))
     (λ e. undo-stored z _ (l .pixels)
-    (entry-told z (getD (l .log) (s .count - 1) 0) (plate-accepted s (sizedAs l) _ e .0 .lawful)))))
+    (entry-told z (getD (l .log) (s .count - 1) 0) (plate-accepted s (sizedAs l) _ e .0 .lawful))))
+
+undo-goes : (s : State) (l : Lent) → GoesBy (undoRows s l) s l (undoCall s l)
+unfolding undoCall undoBy changed
+undo-goes s l =
+    goes-by outcomeOf s l (λ r. undoBy r s l) (λ r e. rw (change-read r e .1)) (λ r f e. rw (refusal-read r f e)) (undoRows s l)
+    (undoRead s (sizedAs l) (l .pixels) (l .log)) (undo-reads s l)
 
 -- FILL
 -- 5 6 11 12 17
@@ -191,19 +200,87 @@ fill-goes s o k f l =
     first-check (count-checks (s .count) (length (l .log))) _ _ (λ _. layer-first o k f))))
 
 -- SHOW
-show-goes : (s : State) (planes : List ℕ) (v : Views) → ShowGoesBy (showRows s planes v) s v (showCall s planes v)
-unfolding showCall showBy showCheck viewsCheck ViewsWrong
-show-goes s planes v =
+show-first : (s : State) (planes : List ℕ) (v : Views)
+    → AnswersBy (showRows s planes v)
+    (showCheck s (length planes) (length (v .scratch)) (length (v .values)) (length (v .mattes)))
+unfolding showCheck viewsCheck ViewsWrong
+show-first s planes v =
     let z = s .size in
     let lengths = views-checks z (length planes) (length (v .scratch)) (length (v .values)) (length (v .mattes)) in
-    let check = showCheck s (length planes) (length (v .scratch)) (length (v .values)) (length (v .mattes)) in
-    let refusedAs : Refusal → Shown = λ f. shows (answerOf (Refused f) 0 s) v in
-    let by : Outcome → Shown = λ o. showBy o s planes v in
-    record {
-      first = rw (outcome-is (λ o. o) (λ (a : Shown). a .answer .outcome) refusedAs by (λ o e. rw e) (λ o f e. rw e) (λ f. refl) check)
-          (first-check (sizes-checks z) _ _ (λ _. first-check lengths [] Accepted (λ _. last-row)));
-      untouched = left-is (λ o. o) (λ (a : Shown). a .answer .outcome) refusedAs by (λ o e. rw e) (λ o f e. rw e) (λ f. refl) check;
-    }
+    first-check (sizes-checks z) _ _ (λ _. first-check lengths [] Accepted (λ _. last-row))
+
+show-goes : (s : State) (planes : List ℕ) (v : Views) → ShowGoesBy (showRows s planes v) s v (showCall s planes v)
+unfolding showCall showBy
+show-goes s planes v =
+    call-by (λ o. o) (λ (a : Shown). a .answer .outcome) (λ f. shows (answerOf (Refused f) 0 s) v) (λ o. showBy o s planes v)
+    (λ o e. rw e) (λ o f e. rw e) (λ f. refl) (showRows s planes v) _ (show-first s planes v)
+
+-- THE SECOND FORMS
+-- a length more is checked after the sizes, and before what the first form checks: it is one more reason for 2
+also-checked : {C D : Type 0} {check : Outcome → Outcome} (z : Size) → Checks Lengths C D check
+    → (L : Type 0) (rows : List (Row Refusal)) (next : Outcome)
+    → AnswersBy (row Sizes (SizesOutside z) ∷ row Lengths L ∷ rows) next
+    → AnswersBy (row Sizes (SizesOutside z) ∷ row Lengths (L ⊎ C) ∷ rows) (sizesCheck z (check next))
+unfolding FirstOf
+also-checked {C} {D} {check} z k L rows next first =
+    first-check (sizes-checks z) (row Lengths (L ⊎ C) ∷ rows) (check next) (λ lawful. by-check k wrong (λ right r. rw (r next) (past lawful right first)))
+  where
+    wrong : C → ((o : Outcome) → check o ≡ Refused Lengths) → AnswersBy (row Lengths (L ⊎ C) ∷ rows) (check next)
+    wrong c r = inl (inr c, r next)
+
+    after : D → AnswersBy (row Lengths L ∷ rows) next → AnswersBy (row Lengths (L ⊎ C) ∷ rows) next
+    after right (inl a) = inl (inl (a .0), a .1)
+    after right (inr a) = inr (⊎-elim (a .0) (λ c. k .apart c right), a .1)
+
+    past : LawfulSize z → D → AnswersBy (row Sizes (SizesOutside z) ∷ row Lengths L ∷ rows) next
+        → AnswersBy (row Lengths (L ⊎ C) ∷ rows) next
+    past lawful right (inl a) = absurd (a .0 lawful)
+    past lawful right (inr a) = after right (a .1)
+
+-- what is read where sums and pictures pass
+kept-outcome : (o : Outcome) (r : ChangeRead) → outcomeOf (keptRead o r) ≡ andThen o (outcomeOf r)
+unfolding keptRead
+kept-outcome Accepted r = refl
+kept-outcome (Refused f) r = refl
+
+-- the second form of put or undo reads by the rows of the first, and 2 comes from sums and pictures too
+kept-reads : (z : Size) (k : Canvas) (L : Type 0) (rows : List (Row Refusal)) (r : ChangeRead)
+    → AnswersBy (row Sizes (SizesOutside z) ∷ row Lengths L ∷ rows) (outcomeOf r)
+    → AnswersBy (row Sizes (SizesOutside z) ∷ row Lengths (L ⊎ CanvasWrong z k) ∷ rows) (outcomeOf (keptRead (canvasFirst z k) r))
+unfolding keptCheck canvasCheck CanvasWrong
+kept-reads z k L rows r first =
+    let lengths = canvas-checks z (length (k .sums)) (length (k .values)) (length (k .mattes)) in
+    rw (
+      kept-outcome (canvasFirst z k) r,
+      ← check-before (sizes-checks z) (canvasCheck z (length (k .sums)) (length (k .values)) (length (k .mattes))) (outcomeOf r),
+      ← check-before lengths Accepted (outcomeOf r),
+    )
+    (also-checked z lengths L rows (outcomeOf r) first)
+
+put-kept-goes : (s : State) (a : Ask) (l : Lent) (k : Canvas) → KeptGoesBy (putKeptRows s a l k) s l k (putKeptCall s a l k)
+unfolding putKeptCall putKeptBy putBy changed canvasBy
+put-kept-goes s a l k =
+    call-by outcomeOf (λ (c : Refreshed). c .call .answer .outcome) (λ f. leavesKept (answerOf (Refused f) 0 s) l k)
+    (λ r. putKeptBy r s l k) (λ r e. rw (change-read r e .1)) (λ r f e. rw (refusal-read r f e)) (λ f. refl) (putKeptRows s a l k)
+    (keptRead (canvasFirst (s .size) k) (putRead s a (sizedAs l) (l .pixels)))
+    (kept-reads (s .size) k _ _ _ (put-reads s a l))
+
+undo-kept-goes : (s : State) (l : Lent) (k : Canvas) → KeptGoesBy (undoKeptRows s l k) s l k (undoKeptCall s l k)
+unfolding undoKeptCall undoKeptBy undoBy changed canvasBy
+undo-kept-goes s l k =
+    call-by outcomeOf (λ (c : Refreshed). c .call .answer .outcome) (λ f. leavesKept (answerOf (Refused f) 0 s) l k)
+    (λ r. undoKeptBy r s l k) (λ r e. rw (change-read r e .1)) (λ r f e. rw (refusal-read r f e)) (λ f. refl) (undoKeptRows s l k)
+    (keptRead (canvasFirst (s .size) k) (undoRead s (sizedAs l) (l .pixels) (l .log)))
+    (kept-reads (s .size) k _ _ _ (undo-reads s l))
+
+show-kept-goes : (s : State) (planes : List ℕ) (v : Views) (sums : List ℕ)
+    → ShowKeptGoesBy (showKeptRows s planes v sums) s v sums (showKeptCall s planes v sums)
+unfolding showKeptCall showKeptBy showKeptCheck showBy sumsBy
+show-kept-goes s planes v sums =
+    call-by (λ o. o) (λ (a : ShownKept). a .call .answer .outcome)
+    (λ f. showsKept (answerOf (Refused f) 0 s) v sums) (λ o. showKeptBy o s planes v sums)
+    (λ o e. rw e) (λ o f e. rw e) (λ f. refl) (showKeptRows s planes v sums) _
+    (also-checked (s .size) (length-checks (length sums) _) _ [] _ (show-first s planes v))
 
 pub demand-1 : Demand1
 demand-1 =
@@ -213,6 +290,9 @@ demand-1 =
       undo-by = undo-goes;
       fill-by = fill-goes;
       show-by = show-goes;
+      put-kept-by = put-kept-goes;
+      undo-kept-by = undo-kept-goes;
+      show-kept-by = show-kept-goes;
     }
 
 pub orders : Orders
@@ -223,6 +303,9 @@ orders =
       of-undo = λ s l. refl;
       of-fill = λ s o k f l. refl;
       of-show = λ s planes v. refl;
+      of-put-kept = λ s a l k. refl;
+      of-undo-kept = λ s l k. refl;
+      of-show-kept = λ s planes v sums. refl;
     }
 
 -- PLATES THERE ARE

@@ -6,19 +6,23 @@ use Prim.Native.Nat.{ℕ, zero, suc, _*_, _<_}
 use lib.Dec.{lit<}
 use lib.ListN.{getD, length, replicate}
 use Rattle.kernels.specs.Rounding.{shownValue, shownMatte}
-use Rattle.plate.specs.Layout.{Size, padded, places}
+use Rattle.plate.specs.Layout.{Size, padded, places, sumsInAll}
 use Rattle.plate.specs.Word.{Pixel, empty, Entry}
-use Rattle.plate.specs.Refusal.{Outcome, Accepted, Refused, viewsCheck, openCheck, showCheck}
-use Rattle.plate.specs.Lent.{stateOf, Lent, sizedAs, Views, ask, inputs}
-use Rattle.plate.specs.Calls.{answerOf, zeros, listTo, sumAt, shown, showBy, showCall, openCall}
+use Rattle.plate.specs.Refusal.{Refusal, Lengths, Outcome, Accepted, Refused, viewsCheck, openCheck, showCheck, keptCheck, showKeptCheck}
+use Rattle.plate.specs.Change.{ChangeRead, NoChange}
+use Rattle.plate.specs.Lent.{stateOf, Lent, sizedAs, Views, Canvas, Ask, ask, inputs}
+use Rattle.plate.specs.Calls.{Left, refused, answerOf, zeros, listTo, putBy, putCall, undoBy, undoCall, sumAt, shown, showBy, showCall, openCall}
+use Rattle.plate.specs.Kept.{keptRead, canvasFirst, putKeptBy, putKeptCall, undoKeptBy, undoKeptCall, showKeptBy, showKeptCall}
 use Rattle.plate.specs.Plain.{matteOf, lightOf, plainSum, plainValues, plainMattes}
-use Rattle.plate.specs.Notebook.{Book, bookOf, openBook, both, Report, bookShowBy, bookShow}
-use Rattle.plate.specs.Lists.{Byte, codes, Call, Plate, leftBy, putIt, undoIt, fillIt, showIt, seenBy, shownTo, plateStep, bookStep, plateReports, plateAfter, bookReports, bookAfter, Holds, Demand3, Demand2}
+use Rattle.plate.specs.Notebook.{Book, bookOf, openBook, both, Report, Turn, bookShowBy, bookShow, bookKept, canvasWith, bookPutKept, bookUndoKept, bookShowKept}
+use Rattle.plate.specs.Lists.{Byte, codes, Call, Plate, leftBy, putIt, undoIt, fillIt, showIt, putKeptIt, undoKeptIt, showKeptIt, stepOf, seenBy, shownTo, plateStep, bookStep, plateReports, plateAfter, bookReports, bookAfter, Holds, Demand3, Demand2}
+use Rattle.plate.proofs.checks.Rows.{by-check}
+use Rattle.plate.proofs.checks.Conditions.{length-checks}
 use Rattle.plate.proofs.checks.Passed.{length-pass, sizes-pass}
 use Rattle.plate.proofs.demands.PlainSums.{show-fact}
 use Rattle.plate.proofs.numbers.Lists.{listTo-ext}
 use Rattle.plate.proofs.demands.Logs.{log-from-bottom}
-use Rattle.plate.proofs.demands.Mirror.{Mirrored, mirror, Agree, agree-still, put-agrees, undo-agrees}
+use Rattle.plate.proofs.demands.Mirror.{Mirrored, heldBy, mirror, Agree, agree-still, agree-refused, put-agrees, undo-agrees}
 use Rattle.plate.proofs.demands.Fills.{fill-agrees, open-kept, open-mirror}
 use Rattle.plate.specs.Fixed.{planesInAll}
 use Rattle.kernels.specs.Fixed.{planesEach}
@@ -34,11 +38,11 @@ module _ (z : Size) (room : ℕ) (planes : List ℕ) (grid : List Pixel) (pile :
       → (sumAt z planes 0 i ≡ plainSum z grid lightOf i) × (sumAt z planes planesEach i ≡ plainSum z grid matteOf i)
   sums = show-fact z planes grid (kept .lawful) (kept .cells-count) (kept .each-cell) (kept .grid-fits)
 
-  values-plain : listTo (λ i. shownValue (sumAt z planes 0 i) (sumAt z planes planesEach i)) (places z) ≡ plainValues z grid
+  pub values-plain : listTo (λ i. shownValue (sumAt z planes 0 i) (sumAt z planes planesEach i)) (places z) ≡ plainValues z grid
   unfolding plainValues
   values-plain = listTo-ext _ _ (places z) (λ i h. rw (sums i h .0, sums i h .1))
 
-  mattes-plain : listTo (λ i. shownMatte (sumAt z planes planesEach i)) (places z) ≡ plainMattes z grid
+  pub mattes-plain : listTo (λ i. shownMatte (sumAt z planes planesEach i)) (places z) ≡ plainMattes z grid
   unfolding plainMattes
   mattes-plain = listTo-ext _ _ (places z) (λ i h. rw (sums i h .1))
 
@@ -74,6 +78,52 @@ module _ (z : Size) (room : ℕ) (planes : List ℕ) (grid : List Pixel) (pile :
   unfolding showCall showBy
   show-kept v e = rw (show-checked v, e, values-plain, mattes-plain)
 
+  -- THE SECOND FORMS
+  -- a plate of its own calls is refused for sums and pictures alone
+  canvas-checked : (k : Canvas) → canvasFirst z k ≡ canvasWith (bookOf z room grid pile) k
+  unfolding keptCheck
+  canvas-checked k = sizes-pass z _ (kept .lawful)
+
+  -- a second form is the first, or refused for them
+  kept-agrees : (by : ChangeRead → Left) → ((f : Refusal) → by (NoChange f) ≡ refused f (stateOf z (length pile)) (heldBy room planes grid pile))
+      → (o : Outcome) (r : ChangeRead) (t : Turn) → Agree z room (stepOf (by r)) t
+      → Agree z room (stepOf (by (keptRead o r))) (bookKept o (bookOf z room grid pile) t)
+  unfolding keptRead bookKept
+  kept-agrees by refuses Accepted r t first = first
+  kept-agrees by refuses (Refused f) r t first = rw (refuses f) (agree-refused z room planes grid pile kept f)
+
+  pub put-kept-agrees : (a : Ask) → a .opacity < 256 → (k : Canvas)
+      → Agree z room
+      (stepOf (putKeptCall (stateOf z (length pile)) a (heldBy room planes grid pile) k .call))
+      (bookPutKept (bookOf z room grid pile) a k)
+  unfolding putKeptCall putKeptBy bookPutKept putCall putBy
+  put-kept-agrees a byte k =
+      rw (canvas-checked k)
+      (kept-agrees (λ r. putBy r (stateOf z (length pile)) (heldBy room planes grid pile)) (λ f. refl) _ _ _
+      (put-agrees z room planes grid pile kept a byte))
+
+  pub undo-kept-agrees : (k : Canvas)
+      → Agree z room
+      (stepOf (undoKeptCall (stateOf z (length pile)) (heldBy room planes grid pile) k .call))
+      (bookUndoKept (bookOf z room grid pile) k)
+  unfolding undoKeptCall undoKeptBy bookUndoKept undoCall undoBy
+  undo-kept-agrees k =
+      rw (canvas-checked k)
+      (kept-agrees (λ r. undoBy r (stateOf z (length pile)) (heldBy room planes grid pile)) (λ f. refl) _ _ _
+      (undo-agrees z room planes grid pile kept))
+
+  pub show-kept-agrees : (v : Views) (sums : List ℕ)
+      → Agree z room
+      (shownTo (mirror z room planes grid pile) (showKeptCall (stateOf z (length pile)) planes v sums .call))
+      (bookShowKept (bookOf z room grid pile) v sums)
+  unfolding showKeptCall showKeptBy showKeptCheck bookShowKept bookShow bookKept
+  show-kept-agrees v sums =
+      rw (sizes-pass z _ (kept .lawful), show-checked v)
+      (by-check (length-checks (length sums) (sumsInAll z))
+      (λ wrong r. rw (r _, r Accepted) (unfold bookShowBy in (show-by v (Refused Lengths))))
+      (λ right r. rw (r _, r Accepted)
+      (show-by v (viewsCheck z (length (v .scratch)) (length (v .values)) (length (v .mattes))))))
+
   -- ONE CALL
   pub step-agrees : (c : Call) → Agree z room (plateStep (mirror z room planes grid pile) c) (bookStep (bookOf z room grid pile) c)
   unfolding plateStep bookStep
@@ -81,6 +131,9 @@ module _ (z : Size) (room : ℕ) (planes : List ℕ) (grid : List Pixel) (pile :
   step-agrees undoIt = undo-agrees z room planes grid pile kept
   step-agrees (fillIt o s vs bs zs) = fill-agrees z room planes grid pile kept o s (inputs vs (codes bs) zs) (codes-small bs)
   step-agrees (showIt v) = show-agrees v
+  step-agrees (putKeptIt x y v a s r k) = put-kept-agrees (ask x y v (a .code) s (r .code)) (a .small) k
+  step-agrees (undoKeptIt k) = undo-kept-agrees k
+  step-agrees (showKeptIt v ns) = show-kept-agrees v ns
 
   -- what is compared after a list
   kept-holds : Holds (mirror z room planes grid pile) (bookOf z room grid pile)

@@ -1,13 +1,13 @@
 -- What a show sums: the finished planes of a plate that holds a grid's marks are the grid's plain sums, which do not wrap.
-use mathlib.Core.Path.{_≡_, ap, _∙_}
+use mathlib.Core.Path.{_≡_, refl, ap, _∙_}
 use mathlib.Core.List.{List}
 use Prim.Native.Nat.{ℕ, zero, suc, _+_, _*_, _/_, _%_, _^_, _≤_, _<_}
 use native.Mathlib.Omega.{arith}
 use native.Mathlib.Nat.{mod-mod, mod-eq-of-lt, le-trans, le-refl}
 use lib.ListN.{getD, length}
-use Rattle.kernels.specs.Sum.{sum, Row, dist, finish}
+use Rattle.kernels.specs.Sum.{sum, Row, Planes, dist, finish}
 use Rattle.kernels.specs.Mark.{Mark, marksTo, planesOf}
-use Rattle.kernels.proofs.numbers.Choices.{by-lt, within-yes, within-no}
+use Rattle.kernels.proofs.numbers.Choices.{by-lt, if-within, within-yes}
 use Rattle.kernels.proofs.numbers.Products.{product-le}
 use Rattle.kernels.proofs.sums.FiniteSums.{sum-ext-lt, sum-none, sum-cong}
 use Rattle.kernels.proofs.sums.PlaneSums.{_≈²_, finish-cong-planes}
@@ -18,12 +18,11 @@ use Rattle.plate.specs.Layout.{Size, wide, high, padded, cell, places, c
 use Rattle.plate.specs.Word.{Pixel}
 use Rattle.plate.specs.Marks.{pixelMarks, total}
 use Rattle.plate.specs.Calls.{stored, sumAt}
-use Rattle.plate.specs.Plain.{pixelAt, lightOf, matteOf, plainSum, gridCell}
+use Rattle.plate.specs.Plain.{pixelAt, lightOf, matteOf, weightAt, plainSum, gridCell}
 use Rattle.plate.specs.code.Bounds.{LawfulSize, Fits}
 use Rattle.plate.proofs.laying.Cells.{cell-lt, reach-under, laid, light-laid, matte-laid, laid-outside}
 use Rattle.plate.specs.Fixed.{planesInAll, placesTop}
 use Rattle.kernels.specs.Fixed.{opacityTop, valueTop, planesEach, margin, unit}
-use Rattle.plate.specs.Kernel.{weightOf}
 
 -- THE PLAIN SUMS DO NOT WRAP
 sum-le : (f : Row) (c n : ℕ) → ((k : ℕ) → f k ≤ c) → sum f n ≤ n * c
@@ -56,6 +55,59 @@ no-wrap z grid law fits i = (
 dist-padded : (a b R : ℕ) → dist (a + R + margin) (b + R + margin) ≡ dist a b
 dist-padded a b R = omega arith
 
+-- in a picture's planes from p on, some marks of the planes are those of a list of marks
+abbrev pub LaidAs : Size → ℕ → List Mark → List Mark → Type 0
+LaidAs z p all own =
+    (d x y : ℕ) → d < planesEach → x < wide z → y < high z → total z (cell z (p + d) x y) all ≡ planesOf own d x y
+
+-- and so a pixel's are those of its kernel, as often as it is worth there
+abbrev pub InPicture : Size → ℕ → (Pixel → ℕ) → Type 0
+InPicture z p worth =
+    (i : ℕ) → i < places z → (q : Pixel) → Fits (z .reach) q → LaidAs z p (pixelMarks z i q) (laid z (worth q) i q)
+
+pub in-light : (z : Size) → LawfulSize z → InPicture z 0 lightOf
+in-light z law i h q fits d x y = light-laid z law i h q fits d x y
+
+pub in-matte : (z : Size) → LawfulSize z → InPicture z planesEach matteOf
+in-matte z law i h q fits d x y _ = matte-laid z law i h q fits d x y
+
+-- a cell of a picture's planes
+pub stored-in : (z : Size) (planes : List ℕ) (p d x y : ℕ) → x < wide z → y < high z
+    → stored z planes p d x y ≡ getD planes (cell z (p + d) x y) 0
+unfolding stored
+stored-in z planes p d x y px py = rw (within-yes (suc x) (wide z), within-yes (suc y) (high z))
+
+pub stored-out : (z : Size) (planes : List ℕ) (p d x y : ℕ) → (x < wide z → y < high z → ⊥) → stored z planes p d x y ≡ 0
+unfolding stored
+stored-out z planes p d x y n =
+    if-within (suc x) (wide z) _ 0 (λ px. if-within (suc y) (high z) _ 0 (λ py. absurd (n px py)) (λ _. refl)) (λ _. refl)
+
+-- planes that hold what others do inside, where these have nothing outside
+pub stored-as : (z : Size) (planes : List ℕ) (p : ℕ) (m : Planes)
+    → ((d x y : ℕ) → d < planesEach → x < wide z → y < high z
+    → getD planes (cell z (p + d) x y) 0 % 2 ^ 64 ≡ m d x y % 2 ^ 64)
+    → ((d x y : ℕ) → (x < wide z → y < high z → ⊥) → m d x y ≡ 0)
+    → (d : ℕ) → d < planesEach → stored z planes p d ≈² m d
+stored-as z planes p m inside outside d h x y =
+    by-lt x (wide z)
+    (λ px. by-lt y (high z)
+    (λ py. rw (stored-in z planes p d x y px py) (inside d x y h px py))
+    (λ py. away (omega arith)))
+    (λ px. away (omega arith))
+  where
+    away : (x < wide z → y < high z → ⊥) → stored z planes p d x y % 2 ^ 64 ≡ m d x y % 2 ^ 64
+    away n = rw (stored-out z planes p d x y n, outside d x y n)
+
+-- a pixel's marks, finished at another place
+pub finish-laid : (z : Size) (q : Pixel) (w j i : ℕ) → Fits (z .reach) q
+    → finish (planesOf (laid z w j q)) (columnOf z i) (rowOf z i) % 2 ^ 64 ≡ w * weightAt z q j i % 2 ^ 64
+unfolding laid
+finish-laid z q w j i fits =
+    let R = z .reach in
+    let u = reach-under R (q .shape) (q .radius) (fits .radius-fits) in
+    rw (← dist-padded (i % z .width) (j % z .width) R, ← dist-padded (i / z .width) (j / z .width) R)
+    (kernel (q .shape) (q .radius) w (columnOf z j) (rowOf z j) (columnOf z i) (rowOf z i) (omega arith) (omega arith))
+
 -- the marks of the pixel at a place of a grid in one picture, by what a pixel is worth there, and those of all its pixels
 abbrev gridLaid : Size → List Pixel → (Pixel → ℕ) → ℕ → List Mark
 gridLaid z grid worth i = laid z (worth (pixelAt grid i)) i (pixelAt grid i)
@@ -63,16 +115,10 @@ gridLaid z grid worth i = laid z (worth (pixelAt grid i)) i (pixelAt grid i)
 abbrev allLaid : Size → List Pixel → (Pixel → ℕ) → List Mark
 allLaid z grid worth = marksTo (gridLaid z grid worth) (places z)
 
--- in a picture's planes from p on, a pixel's marks are those of that picture
-abbrev InPicture : Size → List Pixel → ℕ → (Pixel → ℕ) → Type 0
-InPicture z grid p worth =
-    (i : ℕ) → i < places z → (d x y : ℕ) → d < planesEach → x < wide z → y < high z
-    → total z (cell z (p + d) x y) (pixelMarks z i (pixelAt grid i)) ≡ planesOf (gridLaid z grid worth i) d x y
-
 module _ (z : Size) (planes : List ℕ) (grid : List Pixel) (law : LawfulSize z)
     (cells : (k : ℕ) → k < planesInAll * padded z → getD planes k 0 ≡ gridCell z grid k)
     (fits : (i : ℕ) → Fits (z .reach) (pixelAt grid i))
-    (p : ℕ) (low : p ≤ planesEach) (worth : Pixel → ℕ) (from : InPicture z grid p worth)
+    (p : ℕ) (low : p ≤ planesEach) (worth : Pixel → ℕ) (from : InPicture z p worth)
   where
     -- the planes hold the marks of all pixels
     stored-inside : (d x y : ℕ) → d < planesEach → x < wide z → y < high z
@@ -81,44 +127,22 @@ module _ (z : Size) (planes : List ℕ) (grid : List Pixel) (law : LawfulSize z)
     stored-inside d x y h px py =
         let here = cells (cell z (p + d) x y) (cell-lt z planesInAll (p + d) x y (omega arith) px py) in
         rw (here, mod-mod, planes-to (gridLaid z grid worth) (places z) d x y)
-        (ap (λ (n : ℕ). n % 2 ^ 64) (sum-ext-lt _ _ (places z) (λ i g. from i g d x y h px py)))
+        (ap (λ (n : ℕ). n % 2 ^ 64) (sum-ext-lt _ _ (places z) (λ i g. from i g (pixelAt grid i) (fits i) d x y h px py)))
 
     stored-outside : (d x y : ℕ) → (x < wide z → y < high z → ⊥) → planesOf (allLaid z grid worth) d x y ≡ 0
     stored-outside d x y n =
         planes-to (gridLaid z grid worth) (places z) d x y
         ∙ sum-none _ (places z) (λ i g. laid-outside z law i g (pixelAt grid i) (fits i) d x y _ n)
 
-    stored-all : (d : ℕ) → d < planesEach → stored z planes p d ≈² planesOf (allLaid z grid worth) d
-    unfolding stored
-    stored-all d h x y =
-        by-lt x (wide z)
-        (λ px. by-lt y (high z)
-        (λ py. rw (within-yes (suc x) (wide z), within-yes (suc y) (high z)) (stored-inside d x y h px py))
-        (λ py. rw (within-yes (suc x) (wide z), within-no (suc y) (high z) _ (omega arith), stored-outside d x y (omega arith))))
-        (λ px. rw (within-no (suc x) (wide z) _ (omega arith), stored-outside d x y (omega arith)))
-
-    -- a pixel's marks, finished at another place
-    finish-one : (i j : ℕ) →
-        let q = pixelAt grid j in
-        let dx = dist (i % z .width) (j % z .width) in
-        let dy = dist (i / z .width) (j / z .width) in
-        finish (planesOf (gridLaid z grid worth j)) (columnOf z i) (rowOf z i) % 2 ^ 64
-        ≡ worth q * weightOf q dx dy % 2 ^ 64
-    unfolding laid
-    finish-one i j =
-        let q = pixelAt grid j in
-        let R = z .reach in
-        let u = reach-under R (q .shape) (q .radius) (fits j .radius-fits) in
-        rw (← dist-padded (i % z .width) (j % z .width) R, ← dist-padded (i / z .width) (j / z .width) R)
-        (kernel (q .shape) (q .radius) (worth q) (columnOf z j) (rowOf z j) (columnOf z i) (rowOf z i) (omega arith) (omega arith))
-
     -- a finished sum is the plain one, wrapped
     sum-wrapped : (i : ℕ) → sumAt z planes p i ≡ plainSum z grid worth i % 2 ^ 64
     unfolding sumAt plainSum
     sum-wrapped i =
-        finish-cong-planes (stored z planes p) (planesOf (allLaid z grid worth)) stored-all (columnOf z i) (rowOf z i)
+        finish-cong-planes (stored z planes p) (planesOf (allLaid z grid worth))
+        (stored-as z planes p (planesOf (allLaid z grid worth)) stored-inside stored-outside)
+        (columnOf z i) (rowOf z i)
         ∙ ap (λ (n : ℕ). n % 2 ^ 64) (finish-to (gridLaid z grid worth) (places z) (columnOf z i) (rowOf z i))
-        ∙ sum-cong _ _ (finish-one i) (places z)
+        ∙ sum-cong _ _ (λ j. finish-laid z (pixelAt grid j) (worth (pixelAt grid j)) j i (fits j)) (places z)
 
 -- the two sums of a show at a place are the plain ones
 pub show-fact : (z : Size) (planes : List ℕ) (grid : List Pixel) → LawfulSize z → length planes ≡ planesInAll * padded z
@@ -128,10 +152,6 @@ pub show-fact : (z : Size) (planes : List ℕ) (grid : List Pixel) → LawfulSiz
     → (sumAt z planes 0 i ≡ plainSum z grid lightOf i) × (sumAt z planes planesEach i ≡ plainSum z grid matteOf i)
 show-fact z planes grid law size cells fits i h =
     let small = no-wrap z grid law fits i in (
-      sum-wrapped z planes grid law cells fits 0 (omega arith) lightOf
-          (λ i h. light-laid z law i h (pixelAt grid i) (fits i)) i
-          ∙ mod-eq-of-lt (small .0),
-      sum-wrapped z planes grid law cells fits planesEach (omega arith) matteOf
-          (λ i h d x y _. matte-laid z law i h (pixelAt grid i) (fits i) d x y) i
-          ∙ mod-eq-of-lt (small .1),
+      sum-wrapped z planes grid law cells fits 0 (omega arith) lightOf (in-light z law) i ∙ mod-eq-of-lt (small .0),
+      sum-wrapped z planes grid law cells fits planesEach (omega arith) matteOf (in-matte z law) i ∙ mod-eq-of-lt (small .1),
     )

@@ -13,11 +13,11 @@ use Rattle.kernels.proofs.taps.ShapeNumbers.{count-few}
 use Rattle.plate.specs.Layout.{Size}
 use Rattle.plate.specs.Word.{Pixel, Entry}
 use Rattle.plate.specs.Refusal.{Refusal, Sizes, Lengths, LogCount, Place, Value, Shape as ShapeRefused, Radius, LogFull, LogEmpty, StoredWord, Lens, Depth, DepthInside, refusalNumber, Outcome, Accepted, Refused, askCheck}
-use Rattle.plate.specs.Lent.{Ask, ask, Inputs, inputs}
+use Rattle.plate.specs.Lent.{Ask, ask, Inputs, inputs, Views}
 use Rattle.plate.specs.Change.{askedPlace, askedPixel, knownShape}
 use Rattle.plate.specs.Plain.{pixelAt}
-use Rattle.plate.specs.Notebook.{Book, bookOf, Report, plain, bookPutBy, bookPut, bookUndoOf, bookUndo, bookFillBy, bookFill, bookShowBy, bookShow}
-use Rattle.plate.specs.Lists.{Byte, codes, Call, putIt, undoIt, fillIt, showIt, plateStep, bookStep, bookReports}
+use Rattle.plate.specs.Notebook.{Book, bookOf, Report, plain, bookPutBy, bookPut, bookUndoOf, bookUndo, bookFillBy, bookFill, bookShowBy, bookShow, Turn, bookKept, bookPutKept, bookUndoKept, bookShowKept}
+use Rattle.plate.specs.Lists.{Byte, codes, Call, putIt, undoIt, fillIt, showIt, putKeptIt, undoKeptIt, showKeptIt, plateStep, bookStep, bookReports}
 use Rattle.plate.specs.Counts.{Few, CountOf, Counted, ListsCounted}
 use Rattle.plate.proofs.demands.Demand.{demand-3}
 use Rattle.plate.proofs.demands.Mirror.{Mirrored, mirror, put-agrees, undo-agrees}
@@ -103,14 +103,37 @@ unfolding bookShowBy
 show-none Accepted b = refl
 show-none (Refused g) b = refl
 
+-- a second form counts as the first, and none where it is refused for its buffers
+kept-few : (o : Outcome) (b : Book) (t : Turn) → Few (t .report) → Few (bookKept o b t .report)
+unfolding bookKept
+kept-few Accepted b t h = h
+kept-few (Refused f) b t h = record { if-accepted = λ e. absurd (omega (arith, refusal-some f)); if-refused = λ d. refl }
+
+kept-none : (o : Outcome) (b : Book) (t : Turn) → t .report .marks ≡ 0 → bookKept o b t .report .marks ≡ 0
+unfolding bookKept
+kept-none Accepted b t h = h
+kept-none (Refused f) b t h = refl
+
+put-few : (b : Book) (a : Ask) → Few (bookPut b a .report)
+put-few b a = few (pixelAt (b .grid) (askedPlace (b .size) a) .shape) (knownShape (shapeOf (a .shape))) _ (book-put b a)
+
+book-undo-few : (b : Book) → Few (bookUndo b .report)
+unfolding bookUndo
+book-undo-few b = undo-few (b .size) (b .room) (b .grid) (b .pile)
+
+book-show-none : (b : Book) (v : Views) → bookShow b v .report .marks ≡ 0
+unfolding bookShow
+book-show-none b v = show-none _ b
+
 step-counted : (b : Book) (c : Call) → CountOf c (bookStep b c .report)
-unfolding CountOf bookStep bookUndo bookFill bookShow
-step-counted b (putIt x y v a s r) =
-    few (pixelAt (b .grid) (y * b .size .width + x) .shape) (knownShape (shapeOf s)) _
-    (book-put b (ask x y v (a .code) s (r .code)))
-step-counted b undoIt = undo-few (b .size) (b .room) (b .grid) (b .pile)
+unfolding CountOf bookStep bookFill bookPutKept bookUndoKept bookShowKept
+step-counted b (putIt x y v a s r) = put-few b (ask x y v (a .code) s (r .code))
+step-counted b undoIt = book-undo-few b
 step-counted b (fillIt o s vs bs zs) = fill-none _ b o s (inputs vs (codes bs) zs)
-step-counted b (showIt v) = show-none _ b
+step-counted b (showIt v) = book-show-none b v
+step-counted b (putKeptIt x y v a s r k) = kept-few _ b _ (put-few b (ask x y v (a .code) s (r .code)))
+step-counted b (undoKeptIt k) = kept-few _ b _ (book-undo-few b)
+step-counted b (showKeptIt v sums) = kept-none _ b _ (book-show-none b v)
 
 pub book-counted : (b : Book) (calls : List Call) → Counted calls (bookReports b calls)
 unfolding Counted bookReports

@@ -3,7 +3,7 @@ use mathlib.Core.Path.{_≡_, refl, ap, _∙_}
 use mathlib.Core.List.{List, [], _∷_, _++_}
 use Prim.Native.Nat.{ℕ, _+_, _*_, _-_, _%_, _^_, _≤_, _<_}
 use native.Mathlib.Omega.{arith}
-use native.Mathlib.Nat.{mul-assoc, mod-mod, mod-eq-of-lt, div-eq-of-lt, mul-add-mod-self-right, mul-add-div-right, mul-le-mul-right}
+use native.Mathlib.Nat.{mul-assoc, mod-mod, mul-le-mul-right}
 use Rattle.kernels.specs.declared.shape.Shape.{Shape}
 use Rattle.kernels.specs.declared.shape.Shape.the-variants.{Box, Tent, Triple, Diamond, Hexagon, Octagon}
 use Rattle.kernels.specs.Shape.{reachOf, topOf}
@@ -20,7 +20,7 @@ use Rattle.plate.specs.Fixed.{planesInAll}
 use Rattle.plate.specs.Layout.{Size, wide, high, padded, columnOf, rowOf}
 use Rattle.plate.specs.Word.{Pixel}
 use Rattle.plate.specs.Marks.{inBoth, pixelMarks, cellOf, layOne, layAll}
-use Rattle.plate.proofs.numbers.Extents.{place-within}
+use Rattle.plate.proofs.numbers.Extents.{place-within, column-is, row-is}
 use Rattle.plate.proofs.laying.Cells.{reach-under}
 use Rattle.plate.proofs.laying.LaidCells.{lay-one-mod}
 use Rattle.plate.specs.code.Laying.{Worth, times, worthOf, Ground, layWorth, layDrawn, FewBoxes, AllIn, Roomy, Placed, PixelReady, ownMarks, groundOf, spare, cornerOf, marksAt}
@@ -31,10 +31,10 @@ use Rattle.kernels.specs.Fixed.{planesEach, level, margin}
 -- WHERE A PIXEL LIES
 -- "place being y × W + x"
 pub column-at : (z : Size) (x y : ℕ) → x < z .width → columnOf z (y * z .width + x) ≡ x + z .reach + margin
-column-at z x y h = rw (mul-add-mod-self-right y (z .width) x, mod-eq-of-lt h)
+column-at z x y h = rw (column-is x y (z .width) h)
 
 pub row-at : (z : Size) (x y : ℕ) → x < z .width → rowOf z (y * z .width + x) ≡ y + z .reach + margin
-row-at z x y h = rw (mul-add-div-right {m = z .width} (omega arith) y x, div-eq-of-lt h) (omega arith)
+row-at z x y h = rw (row-is x y (z .width) h)
 
 -- a cell of a plane
 cell-in : (w h a b p x y : ℕ) → p < planesEach → x + a < w → y + b < h

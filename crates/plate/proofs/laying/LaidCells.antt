@@ -3,7 +3,7 @@ use mathlib.Core.Path.{_≡_, refl, ap, sym, _∙_}
 use mathlib.Core.List.{List, [], _∷_}
 use Prim.Native.Nat.{ℕ, zero, suc, _+_, _*_, _-_, _%_, _^_, _<_}
 use native.Mathlib.Omega.{arith}
-use native.Mathlib.Nat.{mod-lt, mod-add-mod, add-assoc, add-mul-mod-self-left}
+use native.Mathlib.Nat.{mod-lt, mod-mod, mod-eq-of-lt, mod-add-mod, add-assoc, add-mul-mod-self-left}
 use lib.Dec.{lit<}
 use lib.ListN.{getD, set, length, length-set}
 use lib.Seq.{getD-set-same, getD-set-other}
@@ -25,13 +25,22 @@ pub length-lay-one : (cells : List ℕ) (p w : ℕ) → length (layOne cells p w
 unfolding layOne
 length-lay-one cells p w = length-set cells _ _
 
-pub lay-one-cell : (cells : List ℕ) (p w k : ℕ) → k < length cells → getD cells k 0 < 2 ^ 64
-    → getD (layOne cells p w) k 0 ≡ (getD cells k 0 + same k p w) % 2 ^ 64
+-- a cell after it, at 2^64: what it held and what is laid on it
+lay-one-wrapped : (cells : List ℕ) (p w k : ℕ) → k < length cells
+    → getD (layOne cells p w) k 0 % 2 ^ 64 ≡ (getD cells k 0 + same k p w) % 2 ^ 64
 unfolding layOne
-lay-one-cell cells p w k h f =
+lay-one-wrapped cells p w k h =
     by-eq k p
-    (λ e. rw (same-yes k p w e, ← e) (getD-set-same cells k _ 0 h))
-    (λ n. rw (same-no k p w n, getD-set-other cells p k _ 0 n) (sym (omega arith)))
+    (λ e. rw (same-yes k p w e, ← e, getD-set-same cells k _ 0 h) (mod-mod _ _))
+    (λ n. rw (same-no k p w n, getD-set-other cells p k _ 0 n) (omega arith))
+
+-- a cell below 2^64 stays below
+lay-one-low : (cells : List ℕ) (p w k : ℕ) → k < length cells → getD cells k 0 < 2 ^ 64 → getD (layOne cells p w) k 0 < 2 ^ 64
+unfolding layOne
+lay-one-low cells p w k h f =
+    by-eq k p
+    (λ e. rw (← e, getD-set-same cells k _ 0 h) (wrapped-low _))
+    (λ n. rw (getD-set-other cells p k _ 0 n) f)
 
 -- numbers that are the same at 2^64 leave the same
 pub lay-one-mod : (cells : List ℕ) (k v w : ℕ) → v % 2 ^ 64 ≡ w % 2 ^ 64 → layOne cells k v ≡ layOne cells k w
@@ -45,16 +54,31 @@ length-lay z cells [] = refl
 length-lay z cells (m ∷ ms) =
     length-lay z (layOne cells (cellOf z m) (m .coefficient)) ms ∙ length-lay-one cells (cellOf z m) (m .coefficient)
 
--- a cell after a list of marks: what it held and all that is laid there, wrapped
+-- a cell after a list of marks, at 2^64: what it held and all that is laid there
+pub lay-wrapped : (z : Size) (cells : List ℕ) (ms : List Mark) (k : ℕ) → k < length cells
+    → getD (layAll z cells ms) k 0 % 2 ^ 64 ≡ (getD cells k 0 + total z k ms) % 2 ^ 64
+unfolding layAll total
+lay-wrapped z cells [] k h = omega arith
+lay-wrapped z cells (m ∷ ms) k h =
+    let p = cellOf z m in
+    let w = m .coefficient in
+    lay-wrapped z (layOne cells p w) ms k (omega (arith, length-lay-one cells p w))
+    ∙ cong-add _ _ _ _ (lay-one-wrapped cells p w k h) refl
+    ∙ ap (λ n. n % 2 ^ 64) (add-assoc _ _ _)
+
+lay-low : (z : Size) (cells : List ℕ) (ms : List Mark) (k : ℕ) → k < length cells → getD cells k 0 < 2 ^ 64
+    → getD (layAll z cells ms) k 0 < 2 ^ 64
+unfolding layAll
+lay-low z cells [] k h f = f
+lay-low z cells (m ∷ ms) k h f =
+    let p = cellOf z m in
+    let w = m .coefficient in
+    lay-low z (layOne cells p w) ms k (omega (arith, length-lay-one cells p w)) (lay-one-low cells p w k h f)
+
+-- and a cell below 2^64 holds just that, wrapped
 pub lay-cell : (z : Size) (cells : List ℕ) (ms : List Mark) (k : ℕ) → k < length cells → getD cells k 0 < 2 ^ 64
     → getD (layAll z cells ms) k 0 ≡ (getD cells k 0 + total z k ms) % 2 ^ 64
-unfolding layAll total
-lay-cell z cells [] k h f = omega arith
-lay-cell z cells (m ∷ ms) k h f =
-    let c = layOne cells (cellOf z m) (m .coefficient) in
-    let one = lay-one-cell cells (cellOf z m) (m .coefficient) k h f in
-    lay-cell z c ms k (omega (arith, length-lay-one cells (cellOf z m) (m .coefficient))) (rw one (wrapped-low _))
-    ∙ rw one (mod-add-mod _ _ _ ∙ ap (λ n. n % 2 ^ 64) (add-assoc _ _ _))
+lay-cell z cells ms k h f = sym (mod-eq-of-lt (lay-low z cells ms k h f)) ∙ lay-wrapped z cells ms k h
 
 -- WHAT MARKS LAY ON A CELL
 pub total-scaled : (z : Size) (k c : ℕ) (ms : List Mark) → total z k (scaled c ms) ≡ c * total z k ms

@@ -1,7 +1,8 @@
 -- Bounds of a plate's products: nothing that a plate counts comes near 2^64.
-use Prim.Native.Nat.{ℕ, _+_, _*_, _/_, _≤_, _<_}
+use mathlib.Core.Path.{_≡_, _∙_}
+use Prim.Native.Nat.{ℕ, _+_, _*_, _/_, _%_, _≤_, _<_}
 use native.Mathlib.Omega.{arith}
-use native.Mathlib.Nat.{mul-comm, div-lt-iff-lt-mul}
+use native.Mathlib.Nat.{mul-comm, div-lt-iff-lt-mul, mul-add-mod-self-right, mul-add-div-right, mod-eq-of-lt, div-eq-of-lt}
 use Rattle.kernels.proofs.numbers.Products.{product-le}
 use Rattle.plate.specs.Layout.{Size, wide, high, padded}
 use Rattle.plate.specs.Fixed.{sideTop, reachTop, border}
@@ -27,6 +28,15 @@ place-within x y w h p q = omega (arith, product-le (y + 1) w h w (omega arith) 
 -- a row of w places lies in h rows
 pub row-in : (y w h : ℕ) → y < h → y * w + w ≤ w * h
 row-in y w h q = omega (arith, product-le (y + 1) w h w (omega arith) (omega arith))
+
+-- its column and its row again
+pub column-is : (x y w : ℕ) → x < w → (y * w + x) % w ≡ x
+column-is x y w h = mul-add-mod-self-right y w x ∙ mod-eq-of-lt h
+
+pub row-is : (x y w : ℕ) → x < w → (y * w + x) / w ≡ y
+row-is x y w h =
+    let none : x / w ≡ 0 = div-eq-of-lt h in
+    mul-add-div-right {m = w} (omega arith) y x ∙ omega (arith, none)
 
 -- the row of a place
 pub row-of : (i w h : ℕ) → 0 < w → i < w * h → i / w < h

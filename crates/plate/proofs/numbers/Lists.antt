@@ -1,10 +1,10 @@
 -- Laws of lists: zeros, the values of a function, what a list holds after a set, and the words of a grid.
-use mathlib.Core.Path.{_≡_, refl, ap}
-use mathlib.Core.List.{List, [], _∷_, map}
-use Prim.Native.Nat.{ℕ, zero, suc, _<_}
+use mathlib.Core.Path.{_≡_, refl, sym, ap, _∙_}
+use mathlib.Core.List.{List, [], _∷_, _++_, map}
+use Prim.Native.Nat.{ℕ, zero, suc, _+_, _*_, _-_, _<_}
 use native.Mathlib.Omega.{arith}
-use lib.ListN.{getD, set, length, replicate, length-replicate, getD-replicate, List·getD-eq-default, List·getD-map}
-use lib.Seq.{getD-set-same, getD-set-other, set-out}
+use lib.ListN.{getD, set, length, replicate, length-replicate, length-append, getD-replicate, List·getD-append, List·getD-eq-default, List·getD-map}
+use lib.Seq.{ext-getD, getD-append-add, getD-set-same, getD-set-other, set-out}
 use Rattle.kernels.proofs.numbers.Choices.{by-lt, by-eq}
 use Rattle.plate.specs.Word.{Pixel, empty, wordOf}
 use Rattle.plate.specs.Calls.{zeros, listTo}
@@ -48,6 +48,23 @@ listTo-each P f n d pd h i =
     by-lt i n
     (λ p. rw (getD-listTo f n i d p) (h i))
     (λ p. rw (List·getD-eq-default (listTo f n) d {n = i} (omega (arith, length-listTo f n))) pd)
+
+-- a list whose halves are the values of two functions
+pub two-lists : (l : List ℕ) (f g : ℕ → ℕ) (n : ℕ) → length l ≡ 2 * n → ((i : ℕ) → i < n → getD l i 0 ≡ f i)
+    → ((i : ℕ) → i < n → getD l (n + i) 0 ≡ g i) → l ≡ listTo f n ++ listTo g n
+two-lists l f g n e one two =
+    ext-getD 0 l (listTo f n ++ listTo g n)
+    (e ∙ sym (length-append (listTo f n) (listTo g n) ∙ omega (arith, length-listTo f n, length-listTo g n)))
+    (λ i h. by-lt i n
+    (λ a. one i a ∙ sym (List·getD-append (listTo f n) (listTo g n) 0 i (omega (arith, length-listTo f n)) ∙ getD-listTo f n i 0 a))
+    (λ a.
+    let b : i - n < n = omega arith in
+    let s : i ≡ n + (i - n) = omega arith in
+    rw s (two (i - n) b ∙ sym (after (i - n) b))))
+  where
+    after : (j : ℕ) → j < n → getD (listTo f n ++ listTo g n) (n + j) 0 ≡ g j
+    after j b =
+        (rw (length-listTo f n) at (getD-append-add (listTo f n) (listTo g n) j 0)) ∙ getD-listTo g n j 0 b
 
 -- AFTER A SET
 pub map-set : {A : Type 0} (f : A → ℕ) (l : List A) (i : ℕ) (a : A) → map f (set l i a) ≡ set (map f l) i (f a)

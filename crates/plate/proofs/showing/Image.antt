@@ -33,31 +33,38 @@ finished-at : (p : Picture) (m s : List ℕ) (y x j : ℕ) → SummedTo p m s (y
 finished-at p m s y x j to l e =
     rw e (to .finished x l ∙ ap (λ (v : ℕ). v % 2 ^ 64) (finish-is (planesIn p m) x y))
 
-module _ (light : Picture) (image : Image) (m s v v' o o' : List ℕ) (i l d : ℕ)
-    (columns : image .first + image .width ≡ light .columns) (both : BothTo light m s (image .first + i + 1))
-    (light-at : l + image .width ≡ sumsEnd light) (matte-at : d + image .width ≡ sumsEnd (matteAfter light))
+-- the sums of the image's row i lie in the scratch: light's from l on, and matte's from d on
+pub record RowFinished (light : Picture) (image : Image) (m s : List ℕ) (i l d : ℕ) : Type 0 where
+  pub light-is : (x : ℕ) → x < image .width → getD s (l + x) 0 ≡ sumIn light image m x i
+  pub matte-is : (x : ℕ) → x < image .width → getD s (d + x) 0 ≡ sumIn (matteAfter light) image m x i
+
+-- so they do once it is summed, at the end of each picture's sums
+pub row-finished : (light : Picture) (image : Image) (m s : List ℕ) (i l d : ℕ) → image .first + image .width ≡ light .columns
+    → BothTo light m s (image .first + i + 1) → l + image .width ≡ sumsEnd light → d + image .width ≡ sumsEnd (matteAfter light)
+    → RowFinished light image m s i l d
+row-finished light image m s i l d columns both light-at matte-at =
+    record {
+      light-is = λ x f. finished-at light m s (image .first + i) (image .first + x) (l + x) (both .light-to) (omega arith) (omega arith);
+      matte-is = λ x f.
+          finished-at (matteAfter light) m s (image .first + i) (image .first + x) (d + x) (both .matte-to) (omega arith) (omega arith);
+    }
+
+-- a cell of a row before row i is none of row i
+pub earlier-row : (w i x y j : ℕ) → x < w → y < i → y * w + x ≡ i * w + j → ⊥
+earlier-row w i x y j f g e = omega (arith, mul-le-mul-right w g)
+
+module _ (light : Picture) (image : Image) (m s v v' o o' : List ℕ) (i l d : ℕ) (sums : RowFinished light image m s i l d)
     (old : ShownTo light image m v o i) (new : RowShown s l d (i * image .width) (image .width) v v' o o') where
-  light-is : (x : ℕ) → x < image .width → getD s (l + x) 0 ≡ sumIn light image m x i
-  light-is x f = finished-at light m s (image .first + i) (image .first + x) (l + x) (both .light-to) (omega arith) (omega arith)
-
-  matte-is : (x : ℕ) → x < image .width → getD s (d + x) 0 ≡ sumIn (matteAfter light) image m x i
-  matte-is x f =
-      finished-at (matteAfter light) m s (image .first + i) (image .first + x) (d + x) (both .matte-to) (omega arith) (omega arith)
-
-  earlier : (x y : ℕ) → x < image .width → y < i → (c j : ℕ) → c < 1 → j < image .width
-      → y * image .width + x ≡ i * image .width + j → ⊥
-  earlier x y f g c j k q e = omega (arith, mul-le-mul-right (image .width) g)
-
   pub shown-next : ShownTo light image m v' o' (i + 1)
   shown-next =
       record {
         in-values = λ x y f. below-more (λ y. getD v' (y * image .width + x) 0
             ≡ shownValue (sumIn light image m x y) (sumIn (matteAfter light) image m x y)) i
-            (λ y g. new .in-values .rest _ (earlier x y f g) ∙ old .in-values x y f g)
-            (new .in-values .done 0 x (omega arith) f ∙ rw (light-is x f, matte-is x f)) y;
+            (λ y g. new .in-values .rest _ (λ c j k q. earlier-row _ i x y j f g) ∙ old .in-values x y f g)
+            (new .in-values .done 0 x (omega arith) f ∙ rw (sums .light-is x f, sums .matte-is x f)) y;
         in-mattes = λ x y f. below-more (λ y. getD o' (y * image .width + x) 0 ≡ shownMatte (sumIn (matteAfter light) image m x y)) i
-            (λ y g. new .in-mattes .rest _ (earlier x y f g) ∙ old .in-mattes x y f g)
-            (new .in-mattes .done 0 x (omega arith) f ∙ rw (matte-is x f)) y;
+            (λ y g. new .in-mattes .rest _ (λ c j k q. earlier-row _ i x y j f g) ∙ old .in-mattes x y f g)
+            (new .in-mattes .done 0 x (omega arith) f ∙ rw (sums .matte-is x f)) y;
       }
 
 shown-start : (light : Picture) (image : Image) (m v o : List ℕ) → ShownTo light image m v o 0
@@ -114,6 +121,16 @@ some-width : (W H j : ℕ) → j < W * H → 0 < W
 some-width zero H j l = absurd (omega arith)
 some-width (suc W) H j l = omega arith
 
+-- what holds at each column of each row holds at each place
+pub each-place : (W H : ℕ) (v : ℕ → ℕ) (F : Plane) (f : ℕ → ℕ)
+    → ((x y : ℕ) → x < W → y < H → v (y * W + x) ≡ F x y)
+    → ((j : ℕ) → F (j % W) (j / W) ≡ f j)
+    → (j : ℕ) → j < W * H → v j ≡ f j
+each-place W H v F f cells same j g =
+    let g' : j < H * W = omega (arith, mul-comm W H) in
+    let q = some-width W H j g in
+    (rw (div-add-mod' j W) at (cells (j % W) (j / W) (mod-lt j q) (div-lt-iff-lt-mul q .1 g'))) ∙ same j
+
 -- a list is what is shown at each place
 shown-list : (v : List ℕ) (W H : ℕ) (F : Plane) (f : ℕ → ℕ) → length v ≡ W * H
     → ((x y : ℕ) → x < W → y < H → getD v (y * W + x) 0 ≡ F x y)
@@ -123,45 +140,41 @@ shown-list v W H F f e cells same =
     ext-getD 0 v (listTo f (W * H)) (e ∙ sym (length-listTo f (W * H)))
     (λ j l.
     let g : j < W * H = omega arith in
-    let g' : j < H * W = omega (arith, mul-comm W H) in
-    let q = some-width W H j g in
-    (rw (div-add-mod' j W) at (cells (j % W) (j / W) (mod-lt j q) (div-lt-iff-lt-mul q .1 g')))
-    ∙ same j
-    ∙ sym (getD-listTo f (W * H) j 0 g))
+    each-place W H (λ j. getD v j 0) F f cells same j g ∙ sym (getD-listTo f (W * H) j 0 g))
 
 -- the image of a plate
 abbrev pub imageOf : Size → Image
 imageOf z = record { first = z .reach + margin; width = z .width; height = z .height }
 
+-- the finished sums of the image are those of its places
+module _ (z : Size) (m : List ℕ) where
+  sum-is : (picture : Picture) (p : ℕ) → picture .wide ≡ wide z → picture .high ≡ high z → picture .marks ≡ p * (wide z * high z)
+      → (j : ℕ) → sumIn picture (imageOf z) m (j % z .width) (j / z .width) ≡ sumAt z m p j
+  unfolding sumAt
+  sum-is picture p a b c j =
+      let e : z .reach + margin + j % z .width ≡ columnOf z j = omega arith in
+      let f : z .reach + margin + j / z .width ≡ rowOf z j = omega arith in
+      rw (e, f, stored-is z picture m p a b c)
+
+  pub light-sum : (j : ℕ) → sumIn (lightPicture z) (imageOf z) m (j % z .width) (j / z .width) ≡ sumAt z m 0 j
+  light-sum = sum-is (lightPicture z) 0 refl refl (omega arith)
+
+  pub matte-sum : (j : ℕ)
+      → sumIn (matteAfter (lightPicture z)) (imageOf z) m (j % z .width) (j / z .width) ≡ sumAt z m planesEach j
+  matte-sum = sum-is (matteAfter (lightPicture z)) planesEach refl refl (omega arith)
+
 module _ (state : State) (m s₀ s s' v₀ v o₀ o : List ℕ) (r : ShowReady (state .size) m s₀ v₀ o₀)
     (same-s : length s ≡ length s₀) (same-v : length v ≡ length v₀) (same-o : length o ≡ length o₀)
     (all : ShownTo (lightPicture (state .size)) (imageOf (state .size)) m v o (state .size .height)) (clear : s' ≡ zeros (length s)) where
-  sum-is : (picture : Picture) (p : ℕ) → picture .wide ≡ wide (state .size) → picture .high ≡ high (state .size)
-      → picture .marks ≡ p * (wide (state .size) * high (state .size))
-      → (j : ℕ) → sumIn picture (imageOf (state .size)) m (j % state .size .width) (j / state .size .width) ≡ sumAt (state .size) m p j
-  unfolding sumAt
-  sum-is picture p a b c j =
-      let e : state .size .reach + margin + j % state .size .width ≡ columnOf (state .size) j = omega arith in
-      let f : state .size .reach + margin + j / state .size .width ≡ rowOf (state .size) j = omega arith in
-      rw (e, f, stored-is (state .size) picture m p a b c)
-
-  light-sum : (j : ℕ) → sumIn (lightPicture (state .size)) (imageOf (state .size)) m (j % state .size .width) (j / state .size .width)
-      ≡ sumAt (state .size) m 0 j
-  light-sum = sum-is (lightPicture (state .size)) 0 refl refl (omega arith)
-
-  matte-sum : (j : ℕ)
-      → sumIn (matteAfter (lightPicture (state .size))) (imageOf (state .size)) m (j % state .size .width) (j / state .size .width)
-      ≡ sumAt (state .size) m planesEach j
-  matte-sum = sum-is (matteAfter (lightPicture (state .size))) planesEach refl refl (omega arith)
-
   values-are : v ≡ listTo (λ i. shownValue (sumAt (state .size) m 0 i) (sumAt (state .size) m planesEach i)) (places (state .size))
   values-are =
       shown-list v (state .size .width) (state .size .height) _ _ (same-v ∙ r .values-are) (all .in-values)
-      (λ j. rw (light-sum j, matte-sum j))
+      (λ j. rw (light-sum (state .size) m j, matte-sum (state .size) m j))
 
   mattes-are : o ≡ listTo (λ i. shownMatte (sumAt (state .size) m planesEach i)) (places (state .size))
   mattes-are =
-      shown-list o (state .size .width) (state .size .height) _ _ (same-o ∙ r .mattes-are) (all .in-mattes) (λ j. rw (matte-sum j))
+      shown-list o (state .size .width) (state .size .height) _ _ (same-o ∙ r .mattes-are) (all .in-mattes)
+      (λ j. rw (matte-sum (state .size) m j))
 
   pub all-shown : shown (answerOf Accepted 0 state) s' v o ≡ showBy Accepted state m (views s₀ v₀ o₀)
   unfolding showBy

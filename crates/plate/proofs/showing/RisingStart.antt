@@ -6,7 +6,7 @@ use native.Mathlib.Omega.{arith}
 use lib.ListN.{length, getD}
 use borrow.Author.Count.{below-none, below-more}
 use Rattle.kernels.specs.Sum.{sum}
-use Rattle.plate.specs.code.Passes.{Picture, riseTwo, riseOne, fallOne, fallTwo, planesIn, fallingOneAt, fallingTwoAt, risingOneFrom, risingTwoFrom, risingOneAt, risingTwoAt, downFrom, startsAt, RowLaid, rowWith, risingStart, risingCell, RisingLines, LayReady, Summed}
+use Rattle.plate.specs.code.Passes.{Picture, riseTwo, riseOne, fallOne, fallTwo, planesIn, fallingOneAt, fallingTwoAt, risingOneFrom, risingTwoFrom, risingOneAt, risingTwoAt, downFrom, startsAt, RowLaid, rowWith, rowStart, risingCell, RisingLines, LayReady, Summed}
 use Rattle.plate.proofs.showing.Starts.{Out, in-place, InPlace, rising-one-step, rising-two-step, rising-one-later, rising-two-later, rising-two-earlier, rising-two-other}
 use Rattle.plate.proofs.showing.SlopeLines.{falling-start, rising-start, rising-laid}
 use Rattle.plate.proofs.showing.NextRow.{mark-is, plane-below}
@@ -43,7 +43,7 @@ module _ (p : Picture) (m s₀ s s' : List ℕ) (y : ℕ) (some : 0 < p .columns
   kept j o q = new .rest j (λ c i l. below-more P 1 (below-more P 0 (below-none P) o) q c l i)
     where
       P : ℕ → Type 0
-      P c = Out (risingStart (risingOneAt p y) (risingTwoAt p y) c) (p .columns) j
+      P c = Out (rowStart (risingOneAt p y) (risingTwoAt p y) c) (p .columns) j
 
   here : InPlace p (startsAt p y)
   here = in-place p y (omega arith)

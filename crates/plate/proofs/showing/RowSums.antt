@@ -10,8 +10,8 @@ use borrow.Author.Count.{below-none, below-more}
 use Rattle.kernels.specs.Fixed.{level, secondBox, thirdBox}
 use Rattle.kernels.specs.Sum.{sum, Row}
 use Rattle.kernels.proofs.sums.FiniteSums.{cong-add}
-use Rattle.plate.specs.code.Passes.{Starts, Across, Added, MarksOn, MarksOff, InOrder, BoxesMet, riseTwo, riseOne, fallOne, fallTwo, markAt, marksIn, onto, plus, thirdRow, secondRow, levelRow, rowWith, rowWithout, slopesRow, sumStart, sumCell, risingStart, risingCell}
-use Rattle.plate.proofs.showing.Writes.{Apart, apart-rows, Writing, writing-start, writing-cell, writing-column}
+use Rattle.plate.specs.code.Passes.{Starts, Across, Added, MarksOn, MarksOff, InOrder, BoxesMet, riseTwo, riseOne, fallOne, fallTwo, markAt, marksIn, onto, plus, thirdRow, secondRow, levelRow, rowWith, rowWithout, slopesRow, sumStart, sumCell, rowStart, risingCell}
+use Rattle.plate.proofs.showing.Writes.{Apart, apart-rows, apart-two, Writing, writing-start, writing-cell, writing-column}
 
 sums-apart : (starts : Starts) (n l k : ℕ) → InOrder starts n l k → Apart 7 n (sumStart starts)
 sums-apart starts n l k o =
@@ -142,18 +142,16 @@ module _ (m s₀ s s1 s2 s3 s4 : List ℕ) (starts : Starts) (n k i : ℕ) (sums
 
 -- THE RISING LINES
 module _ (m s₀ s s' : List ℕ) (u v p g n i r : ℕ) (first : u + n ≤ v) (last : v + n ≤ length s₀) (h : i < n)
-    (old : Writing 2 n (risingStart u v) (risingCell m s₀ u v p g) s₀ s i 0)
+    (old : Writing 2 n (rowStart u v) (risingCell m s₀ u v p g) s₀ s i 0)
     (new : MarksOn m s s' (u + i) (v + i) (p + i + riseOne * g) (p + i + riseTwo * g) r) where
-  pub laying-next : Writing 2 n (risingStart u v) (risingCell m s₀ u v p g) s₀ s' (i + 1) 0
+  pub laying-next : Writing 2 n (rowStart u v) (risingCell m s₀ u v p g) s₀ s' (i + 1) 0
   unfolding risingCell
   laying-next =
-      let R = risingStart u v in
+      let R = rowStart u v in
       let X = risingCell m s₀ u v p g in
+      let apart = apart-two n u v first in
       let t0 = line-on s₀ u (λ x. markAt m (p + x) g riseOne) i _ (old .next 0 (omega arith) (omega arith) h) in
       let w1 = writing-cell 2 n R X s₀ s _ i 0 _ apart h (omega arith) (omega arith) old t0 refl in
       let t1 = line-on s₀ v (λ x. markAt m (p + x) g riseTwo) i _ (old .next 1 (omega arith) (omega arith) h) in
       let w2 = writing-cell 2 n R X s₀ _ s' i 1 _ apart h (omega arith) (omega arith) w1 t1 (new .cells) in
       writing-column 2 n R X s₀ s' i h w2
-    where
-      apart : Apart 2 n (risingStart u v)
-      apart = apart-rows 2 n (risingStart u v) (λ c l. let z : c ≡ 0 = omega arith in rw z first)

@@ -7,8 +7,8 @@ use native.Mathlib.Numerals.{add-one}
 use lib.ListN.{length, getD, set, length-set}
 use lib.Seq.{getD-set-same, getD-set-other}
 use borrow.Author.Count.{below-more}
-use Rattle.kernels.proofs.numbers.Choices.{by-lt}
-use Rattle.plate.specs.code.Passes.{Written}
+use Rattle.kernels.proofs.numbers.Choices.{by-lt, by-eq}
+use Rattle.plate.specs.code.Passes.{rowStart, Written}
 
 -- the rows share no cell
 abbrev pub Apart : ℕ → ℕ → (ℕ → ℕ) → Type 0
@@ -29,6 +29,18 @@ apart-rows k n R step c d i j a b x y e =
     climb c (suc d) l g =
         let one : R d + n ≤ R (suc d) = rw add-one at (step d (omega arith)) in
         by-lt c d (λ q. omega (arith, climb c d q (omega arith))) (λ q. let z : c ≡ d = omega arith in rw z one)
+
+-- two rows, the second after the first
+pub apart-two : (n u v : ℕ) → u + n ≤ v → Apart 2 n (rowStart u v)
+apart-two n u v first = apart-rows 2 n (rowStart u v) (λ c l. let z : c ≡ 0 = omega arith in rw z first)
+
+-- a cell that is in neither of them
+pub out-of-two : (n u v j : ℕ) → ((i : ℕ) → i < n → j ≡ u + i → ⊥) → ((i : ℕ) → i < n → j ≡ v + i → ⊥)
+    → (c i : ℕ) → c < 2 → i < n → j ≡ rowStart u v c + i → ⊥
+out-of-two n u v j one two c i l h =
+    by-eq c 0
+    (λ z. rw z (one i h))
+    (λ z. let o : c ≡ 1 = omega arith in rw o (two i h))
 
 -- written: the columns before i, and the rows before c of column i
 pub record Writing (k n : ℕ) (R : ℕ → ℕ) (v : ℕ → ℕ → ℕ) (s₀ s : List ℕ) (i c : ℕ) : Type 0 where

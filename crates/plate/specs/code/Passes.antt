@@ -242,10 +242,11 @@ sumCell planes scratch starts c x =
 abbrev pub RowSummed : List ℕ → List ℕ → List ℕ → Starts → ℕ → Type 0
 RowSummed planes old new starts columns = Written 7 columns (sumStart starts) (sumCell planes old starts) old new
 
--- a row is laid on the rising lines: where these start, and their cells
-abbrev pub risingStart : ℕ → ℕ → ℕ → ℕ
-risingStart one two c = getD (one ∷ two ∷ []) c 0
+-- where each of two rows starts
+abbrev pub rowStart : ℕ → ℕ → ℕ → ℕ
+rowStart one two c = getD (one ∷ two ∷ []) c 0
 
+-- a row is laid on the rising lines: their cells
 unfoldable pub risingCell : List ℕ → List ℕ → ℕ → ℕ → ℕ → ℕ → ℕ → Row
 risingCell planes scratch one two marks apart c x =
     getD
@@ -257,7 +258,7 @@ risingCell planes scratch one two marks apart c x =
 
 abbrev pub RowLaid : List ℕ → List ℕ → List ℕ → Starts → ℕ → Type 0
 RowLaid planes old new starts columns =
-    Written 2 columns (risingStart (starts .«rising_one») (starts .«rising_two»))
+    Written 2 columns (rowStart (starts .«rising_one») (starts .«rising_two»))
     (risingCell planes old (starts .«rising_one») (starts .«rising_two») (starts .marks) (starts .apart)) old new
 
 -- ALL ROWS ABOVE A ROW

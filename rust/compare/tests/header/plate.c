@@ -1,11 +1,12 @@
-/* The plate of the paper's section Records, by the C interface. Compiled as C and as C++. */
+/* The plate of the paper's section Records, by the C interface, then the same puts with kept
+ * pictures. Compiled as C and as C++. */
 #include "lens.h"
 
 #include <stdio.h>
 
 enum { W = 3, H = 1, R = 1, P = (W + 2 * R + 6) * (H + 2 * R + 6), LOG = 2 };
 
-static uint64_t planes[14 * P], pixels[W * H], undo_log[LOG], scratch[3 * P];
+static uint64_t planes[14 * P], pixels[W * H], undo_log[LOG], scratch[3 * P], sums[2 * W * H];
 static uint16_t values[W * H];
 static uint8_t mattes[W * H];
 
@@ -18,14 +19,43 @@ static lens_state put(lens_state state, size_t x, uint16_t value, uint8_t radius
     return answer.state;
 }
 
-static void show(lens_state state)
+static void print_pictures(const char *call, lens_answer answer)
 {
-    lens_answer answer =
-        lens_show(state, planes, 14 * P, scratch, 3 * P, values, W * H, mattes, W * H);
-    printf("show %u:", (unsigned)answer.number);
+    printf("%s %u:", call, (unsigned)answer.number);
     for (int i = 0; i < W * H; i++)
         printf(" %u/%u", (unsigned)values[i], (unsigned)mattes[i]);
     printf("\n");
+}
+
+static void show(lens_state state)
+{
+    print_pictures("show", lens_show(state, planes, 14 * P, scratch, 3 * P, values, W * H,
+                                     mattes, W * H));
+}
+
+static void show_kept(lens_state state)
+{
+    print_pictures("show kept", lens_show_kept(state, planes, 14 * P, scratch, 3 * P, values,
+                                               W * H, mattes, W * H, sums, 2 * W * H));
+}
+
+static lens_state put_kept(lens_state state, size_t x, uint16_t value, uint8_t radius)
+{
+    lens_answer answer =
+        lens_put_kept(state, x, 0, value, 255, 0, radius, planes, 14 * P, pixels, W * H,
+                      undo_log, LOG, sums, 2 * W * H, values, W * H, mattes, W * H);
+    print_pictures("put kept", answer);
+    return answer.state;
+}
+
+/* With sums of a length of the caller's. */
+static lens_state undo_kept(lens_state state, size_t sums_len)
+{
+    lens_answer answer =
+        lens_undo_kept(state, planes, 14 * P, pixels, W * H, undo_log, LOG, sums, sums_len,
+                       values, W * H, mattes, W * H);
+    print_pictures("undo kept", answer);
+    return answer.state;
 }
 
 static lens_state fill(lens_state state, const uint32_t *depths)
@@ -54,5 +84,13 @@ int main(void)
     depths[2] = 20000;
     state = fill(state, depths);
     show(state);
+    state = lens_open(W, H, R, planes, 14 * P, pixels, W * H, undo_log, LOG).state;
+    show_kept(state);
+    state = put_kept(state, 1, 100, 1);
+    state = put_kept(state, 0, 40, 0);
+    state = put_kept(state, 0, 40, 0);
+    state = undo_kept(state, 2 * W * H - 1);
+    state = undo_kept(state, 2 * W * H);
+    printf("sums %.0f %.0f\n", (double)sums[0], (double)sums[2 * W * H - 1]);
     return 0;
 }

@@ -4,7 +4,7 @@ use native.Mathlib.Omega.{arith}
 use lib.ListN.{length}
 use borrow.Author.Needs.{needs}
 use Rattle.kernels.specs.Fixed.{thirdBox}
-use Rattle.plate.specs.code.Passes.{InOrder, risingStart, risingCell}
+use Rattle.plate.specs.code.Passes.{InOrder, rowStart, risingCell}
 use Rattle.plate.proofs.showing.Writes.{Writing, writing-start, writing-all}
 use Rattle.plate.proofs.showing.RowSums.{laying-next}
 use Rattle.plate.proofs.pass.lay_row.Statement.{statement}
@@ -13,7 +13,7 @@ use Rattle.plate.proofs.pass.lay_row.Tie as tie
 abbrev Inv-loop : tie.InvT-loop
 Inv-loop scratch₀ planes columns rising-one rising-two marks apart x₀ scratch x =
     (x ≤ columns)
-    × Writing 2 columns (risingStart rising-one rising-two) (risingCell planes scratch₀ rising-one rising-two marks apart) scratch₀ scratch x 0
+    × Writing 2 columns (rowStart rising-one rising-two) (risingCell planes scratch₀ rising-one rising-two marks apart) scratch₀ scratch x 0
 
 abbrev μ-loop : tie.MeasureT-loop
 μ-loop scratch₀ planes columns rising-one rising-two marks apart x₀ scratch x = columns - x

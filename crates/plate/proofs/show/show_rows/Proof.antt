@@ -7,7 +7,7 @@ use borrow.Author.Needs.{needs}
 use Rattle.plate.specs.code.Passes.{sumsEnd}
 use Rattle.plate.proofs.numbers.Extents.{row-in}
 use Rattle.plate.proofs.showing.BothPictures.{both-on, matte-sums}
-use Rattle.plate.proofs.showing.Image.{ShowingAt, showing-start, shown-next}
+use Rattle.plate.proofs.showing.Image.{row-finished, ShowingAt, showing-start, shown-next}
 use Rattle.plate.proofs.show.show_rows.Statement.{statement}
 use Rattle.plate.proofs.show.show_rows.Tie as tie
 
@@ -116,8 +116,8 @@ loop-again c =
         same-values = shown .round-row .ensures .in-values .same ∙ now .same-values;
         same-mattes = shown .round-row .ensures .in-mattes .same ∙ now .same-mattes;
         both = record { same = sums .same ∙ now .both .same; to = rw e (sums .to) };
-        done = shown-next _ _ _ _ _ _ _ _ (turn .row) _ _ (pre .columns-are) (sums .to)
-            (omega (arith, from, pre .columns-are)) (omega (arith, from, pre .columns-are)) (now .done) (shown .round-row .ensures);
+        done = shown-next _ _ _ _ _ _ _ _ (turn .row) _ _ (row-finished _ _ _ _ (turn .row) _ _ (pre .columns-are) (sums .to)
+            (omega (arith, from, pre .columns-are)) (omega (arith, from, pre .columns-are))) (now .done) (shown .round-row .ensures);
       },
     )
 

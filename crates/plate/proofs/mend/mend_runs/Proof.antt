@@ -1,0 +1,174 @@
+-- `mend::mend_runs` meets its contract: both runs lie in the row, and the pictures are rounded from the sums that they leave.
+use mathlib.Core.Path.{ap, subst, _∙_}
+use Prim.Native.Nat.{_+_, _*_, _-_, _≤_}
+use native.Mathlib.Omega.{arith}
+use borrow.Author.Needs.{needs}
+use Rattle.kernels.specs.Mark.{minus}
+use Rattle.plate.specs.Fixed.{placesTop}
+use Rattle.plate.specs.Lent.{canvas}
+use Rattle.plate.specs.code.Laying.{Worth, times}
+use Rattle.plate.specs.code.Showing.{RowShown}
+use Rattle.plate.specs.code.Mending.{levelWorth, RunGiven}
+use Rattle.plate.proofs.numbers.Extents.{row-in}
+use Rattle.plate.proofs.mending.Gives.{gives-few}
+use Rattle.plate.proofs.mending.Rows.{span-low}
+use Rattle.plate.proofs.mending.Runs.{run-in, runs-mended}
+use Rattle.plate.proofs.mend.mend_runs.Statement.{statement}
+use Rattle.plate.proofs.mend.mend_runs.Tie as tie
+
+-- the row's places are far below 2 ^ 64
+places-low : (s : tie.Start) → s .args .size .width * s .args .size .height ≤ placesTop
+places-low s = s .pre .0 .ready .lawful .places-top
+
+row-low : (s : tie.Start) → let a = s .args in a .row * a .size .width + a .size .width ≤ a .size .width * a .size .height
+row-low s = let a = s .args in row-in (a .row) (a .size .width) (a .size .height) (s .pre .0 .row-in)
+
+mul-places : tie.Need-mul-places
+mul-places c = search needs
+
+mul-start : tie.Need-mul-start
+mul-start c = let s = c .before .before .before .before in omega (arith, row-low s, places-low s)
+
+stretch-around-requires : tie.Need-stretch-around-requires
+stretch-around-requires c κs =
+    let s = c .before .before .before .before in
+    let r = s .pre .0 in (r .ready .column-in, r .ready .lawful .width-top, omega (arith, span-low _ _ _ _ _ _ r .0))
+
+stretch-around-requires-2 : tie.Need-stretch-around-requires-2
+stretch-around-requires-2 c κs =
+    let s = c .before .before .before .before .before in
+    let r = s .pre .0 in (r .ready .column-in, r .ready .lawful .width-top, omega (arith, span-low _ _ _ _ _ _ r .1))
+
+level-worth-requires : tie.Need-level-worth-requires
+level-worth-requires c κs =
+    let s = c .before .before .before .before .before .before .before in
+    gives-few _ _ _ _ (s .pre .0 .ready .old-fits) (s .pre .0 .old-is)
+
+opposite-requires : tie.Need-opposite-requires
+opposite-requires c κs = search needs
+
+give-run-requires : tie.Need-give-run-requires
+give-run-requires c κs =
+    let s = c .before .before .before .before .before .before .before .before .before in
+    run-in _ _ _ _ _ _ (s .pre .0) _ _ (c .before .before .before .before .stretch-around .ensures) _ (s .pre .0 .ready .sums-are)
+
+level-worth-requires-2 : tie.Need-level-worth-requires-2
+level-worth-requires-2 c κs =
+    let s = c .before .before .before .before .before .before .before .before .before .before .before .before .before in
+    gives-few _ _ _ _ (s .pre .0 .ready .new-fits) (s .pre .0 .new-is)
+
+give-run-requires-2 : tie.Need-give-run-requires-2
+give-run-requires-2 c κs =
+    let s = c .before .before .before .before .before .before .before .before .before .before .before .before .before .before in
+    run-in _ _ _ _ _ _ (s .pre .0) _ _ (c .before .before .before .before .before .before .before .before .stretch-around2 .ensures) _
+    (c .before .before .before .before .give-run .ensures .same ∙ s .pre .0 .ready .sums-are)
+
+greater-requires : tie.Need-greater-requires
+greater-requires c κs = search needs
+
+stretch-around-requires-3 : tie.Need-stretch-around-requires-3
+stretch-around-requires-3 c κs =
+    let s = c .before .before .before .before .before .before .before .before .before .before .before .before .before .before .before .before .before .before in
+    let r = s .pre .0 in
+    let low = span-low _ _ _ _ _ _ r in
+    (r .ready .column-in, r .ready .lawful .width-top, omega (arith, c .greater .ensures, low .0, low .1))
+
+-- where the wider stretch is made, and the call's start
+abbrev start : tie.After-stretch-around3 → tie.Start
+start c = c .before .before .before .before .before .before .before .before .before .before .before .before .before .before .before .before .before .before .before
+
+-- the wider stretch lies in the row
+wide-in : (c : tie.After-stretch-around3) → let a = start c .args in
+    let s = c .stretch-around3 .result in
+    (a .row * a .size .width + s .first ≤ a .size .width * a .size .height) × (a .row * a .size .width + s .past ≤ a .size .width * a .size .height)
+wide-in c =
+    let s = start c in
+    let e = c .stretch-around3 .ensures in
+    (omega (arith, e .0, s .pre .0 .ready .column-in, row-low s), omega (arith, e .1, row-low s))
+
+add-first : tie.Need-add-first
+add-first c = let made = c .before in omega (arith, wide-in made .0, places-low (start made))
+
+less-requires : tie.Need-less-requires
+less-requires c κs = search needs
+
+add-round-row : tie.Need-add-round-row
+add-round-row c =
+    let made = c .before .before .before .before .before in omega (arith, wide-in made .0, places-low (start made))
+
+round-row-requires : tie.Need-round-row-requires
+round-row-requires c κs =
+    let made = c .before .before .before .before .before in
+    let s = start made in
+    let w = wide-in made in
+    let count = c .before .before .before .less .ensures in
+    let one = made .before .before .before .before .give-run2 .ensures .same in
+    let two = made .before .before .before .before .before .before .before .before .before .give-run .ensures .same in
+    record {
+      values-in = omega (arith, w .0, w .1, count, s .pre .0 .ready .values-are);
+      mattes-in = omega (arith, w .0, w .1, count, s .pre .0 .ready .mattes-are);
+      light-in = omega (arith, w .0, w .1, count, one, two, s .pre .0 .ready .sums-are);
+      matte-in = omega (arith, w .0, w .1, count, one, two, s .pre .0 .ready .sums-are);
+    }
+
+same-length : tie.Need-same-length
+same-length c = search needs
+
+same-length-2 : tie.Need-same-length-2
+same-length-2 c = search needs
+
+same-length-3 : tie.Need-same-length-3
+same-length-3 c = search needs
+
+returns : tie.Need-returns
+returns c =
+    let seen = c .before .before .before .before in
+    let made = seen .before .before .before .before .before .before in
+    let s = start made in
+    let new = made .before .before .before .before in
+    let old = new .before .before .before .before .before in
+    let worth = old .before .before in
+    let narrow = worth .before .before in
+    let a = s .args in
+    let n = a .size .width * a .size .height in
+    let from = a .row * a .size .width in
+    let first = narrow .before .stretch-around in
+    let second = narrow .stretch-around2 in
+    let wide = made .stretch-around3 in
+    let by = old .before .opposite .ensures ∙ ap (λ (w : Worth). times w (minus 1)) (worth .level-worth .ensures) in
+    let count = seen .before .before .before .before .less .ensures in
+    let taken : RunGiven n from (first .result) (times (levelWorth (a .old)) (minus 1)) (a .sums .now) (old .give-run .last .0) =
+    subst (λ w. RunGiven n from (first .result) w (a .sums .now) (old .give-run .last .0)) by (old .give-run .ensures) in
+    let given : RunGiven n from (second .result) (levelWorth (a .new)) (old .give-run .last .0) (new .give-run2 .last .0) =
+    subst (λ w. RunGiven n from (second .result) w (old .give-run .last .0) (new .give-run2 .last .0)) (new .before .level-worth2 .ensures)
+    (new .give-run2 .ensures) in
+    let shown : RowShown (new .give-run2 .last .0) (from + wide .result .first) (n + (from + wide .result .first)) (from + wide .result .first)
+    (wide .result .past - wide .result .first) (a .values .now) (seen .round-row .last .0) (a .mattes .now) (seen .round-row .last .1 .0) =
+    rw (← count) (seen .round-row .ensures) in
+    runs-mended (a .size) (a .change) (a .row) (a .old) (a .new) (canvas (a .sums .now) (a .values .now) (a .mattes .now)) (s .pre .0)
+    (s .pre .1 .0) (s .pre .1 .1) (first .result) (second .result) (wide .result) _ (made .before .greater .ensures) (first .ensures)
+    (second .ensures) (wide .ensures) _ _ _ _ taken given shown
+
+pub mend-runs-spec : {M : Type 1} → statement M
+mend-runs-spec =
+    tie.close
+    (tie.spec
+    mul-places
+    mul-start
+    stretch-around-requires
+    stretch-around-requires-2
+    level-worth-requires
+    opposite-requires
+    give-run-requires
+    level-worth-requires-2
+    give-run-requires-2
+    greater-requires
+    stretch-around-requires-3
+    add-first
+    less-requires
+    add-round-row
+    round-row-requires
+    same-length
+    same-length-2
+    same-length-3
+    returns)
