@@ -61,6 +61,34 @@ fn fill(state: State, planes: &mut [u64], pixels: &mut [u64], log: &mut [u64]) -
     filled.state
 }
 
+// An opaque box of radius 1, put with sums and pictures mended.
+fn dab(
+    state: State,
+    planes: &mut [u64],
+    pixels: &mut [u64],
+    log: &mut [u64],
+    sums: &mut [u64],
+    values: &mut [u16],
+    mattes: &mut [u8],
+) -> State {
+    let answer = plate::kept::put_kept(
+        state,
+        0,
+        0,
+        40,
+        255,
+        0,
+        1,
+        planes,
+        pixels,
+        log,
+        sums,
+        values,
+        mattes,
+    );
+    answer.state
+}
+
 // A box put and taken back. The first show keeps its sums, and put and undo mend them and the pictures.
 fn paint(state: State, planes: &mut [u64; 1386], pixels: &mut [u64; 3], log: &mut [u64; 2]) {
     let mut scratch = [0u64; 297];
@@ -75,14 +103,8 @@ fn paint(state: State, planes: &mut [u64; 1386], pixels: &mut [u64; 3], log: &mu
         &mut mattes,
         &mut sums,
     );
-    let dab = plate::kept::put_kept(
+    let put = dab(
         state,
-        0,
-        0,
-        40,
-        255,
-        0,
-        1,
         planes,
         pixels,
         log,
@@ -92,7 +114,7 @@ fn paint(state: State, planes: &mut [u64; 1386], pixels: &mut [u64; 3], log: &mu
     );
     print_pictures(&values, &mattes);
     plate::kept::undo_kept(
-        dab.state,
+        put,
         planes,
         pixels,
         log,
