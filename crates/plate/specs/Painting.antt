@@ -58,17 +58,25 @@ shownCanvas s = canvas (s .sums) (s .call .seen .values) (s .call .seen .mattes)
 abbrev pub shownPainting : Plate → ShownKept → Painting
 shownPainting p s = record { plate = record { state = s .call .answer .state; kept = p .kept }; kept = shownCanvas s }
 
+-- a show that is lent as much as another
+pub record AsMuch (v v' : Views) (sums sums' : List ℕ) : Type 0 where
+  pub of-scratch : length (v' .scratch) ≡ length (v .scratch)
+  pub of-values : length (v' .values) ≡ length (v .values)
+  pub of-mattes : length (v' .mattes) ≡ length (v .mattes)
+  pub of-sums : length sums' ≡ length sums
+
 -- after an accepted show of the second form, on any plate at all, every list of puts and undos of the second form, refused ones
--- too, leaves in the kept buffers what a show of the second form would write then, whatever that one is lent
+-- too, leaves in the kept buffers what a show of the second form would write then: one that is lent as much, whatever it holds,
+-- is accepted, and writes just that
 abbrev pub PaintsFresh : Type 0
 PaintsFresh =
     (p : Plate) (v : Views) (sums : List ℕ) (dabs : List Dab) →
     let first = showKeptCall (p .state) (p .kept .planes) v sums in
     let end = paintAll (shownPainting p first) dabs in
     first .call .answer .outcome ≡ Accepted
-    → (v' : Views) (sums' : List ℕ) →
+    → (v' : Views) (sums' : List ℕ) → AsMuch v v' sums sums' →
     let again = showKeptCall (end .plate .state) (end .plate .kept .planes) v' sums' in
-    again .call .answer .outcome ≡ Accepted → end .kept ≡ shownCanvas again
+    (again .call .answer .outcome ≡ Accepted) × (end .kept ≡ shownCanvas again)
 
 -- the same calls in their first form
 abbrev pub firstForm : Dab → Call

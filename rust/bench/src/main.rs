@@ -22,8 +22,8 @@ const SIZES: [(usize, usize); 5] = [(64, 64), (256, 128), (1_024, 512), MAIN, (4
 /// A radius that every shape has.
 const SHAPES_RADIUS: usize = 3;
 
-/// Kernels whose puts mend kept pictures: each shape with a radius of the layer and one that is
-/// put, the same, or a wide one on a sharp layer.
+/// Kernels whose puts mend kept pictures: shapes with a radius of the layer and one that is put,
+/// the same, or a wide one on a sharp layer. Every other shape has the radius that all have.
 const KEPT_SHAPES: [Shape; 2] = [Shape::Box, Shape::Octagon];
 const KEPT_RADII: [(usize, usize); 5] = [(1, 1), (8, 8), (64, 64), (0, 8), (0, 64)];
 
@@ -225,27 +225,34 @@ fn kept_table(engines: &[Engine]) {
         "show kept",
     ]);
     let mut bench = Bench::new(width, height, REACH);
-    for shape in KEPT_SHAPES {
-        for (layer, put) in KEPT_RADII {
-            bench.lay_under(layer, put);
-            let times = bench.run_kept(engines, shape, 7);
-            let handmade = times[times.len() - 1];
-            for (engine, time) in engines.iter().zip(&times) {
-                table.row([
-                    format!("{shape:?}").to_lowercase(),
-                    layer.to_string(),
-                    put.to_string(),
-                    engine.name.into(),
-                    ratio(time.put_undo_kept, handmade.put_undo_kept),
-                    ratio(time.put_and_show(), time.put_kept()),
-                    ratio(time.show_kept, time.show),
-                    microseconds(time.put_undo_kept),
-                    milliseconds(time.show_kept),
-                ]);
-            }
+    for (shape, layer, put) in kept_kernels() {
+        bench.lay_under(layer, put);
+        let times = bench.run_kept(engines, shape, 7);
+        let handmade = times[times.len() - 1];
+        for (engine, time) in engines.iter().zip(&times) {
+            table.row([
+                format!("{shape:?}").to_lowercase(),
+                layer.to_string(),
+                put.to_string(),
+                engine.name.into(),
+                ratio(time.put_undo_kept, handmade.put_undo_kept),
+                ratio(time.put_and_show(), time.put_kept()),
+                ratio(time.show_kept, time.show),
+                microseconds(time.put_undo_kept),
+                milliseconds(time.show_kept),
+            ]);
         }
     }
     table.print();
+}
+
+/// Shape, the layer's radius and the one that is put.
+fn kept_kernels() -> impl Iterator<Item = (Shape, usize, usize)> {
+    let wide = KEPT_SHAPES
+        .into_iter()
+        .flat_map(|shape| KEPT_RADII.map(|(layer, put)| (shape, layer, put)));
+    let others = SHAPES.into_iter().filter(|shape| !KEPT_SHAPES.contains(shape));
+    wide.chain(others.map(|shape| (shape, SHAPES_RADIUS, SHAPES_RADIUS)))
 }
 
 /// The record program, by the wall clock.

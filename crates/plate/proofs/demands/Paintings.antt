@@ -9,21 +9,22 @@ use Rattle.kernels.specs.Fixed.{planesEach}
 use Rattle.plate.specs.Layout.{Size, places, sumsInAll}
 use Rattle.plate.specs.Lent.{State, Ask, ask, Lent, sizedAs, Views, Canvas, canvas}
 use Rattle.plate.specs.Marks.{exchanged}
-use Rattle.plate.specs.Refusal.{Refusal, Outcome, Accepted, Refused, canvasCheck, openCheck, showKeptCheck, keptCheck}
+use Rattle.plate.specs.Refusal.{Refusal, Outcome, Accepted, Refused, canvasCheck, openCheck, showCheck, showKeptCheck, keptCheck}
 use Rattle.plate.specs.Change.{Change, ChangeRead, ToChange, NoChange}
 use Rattle.plate.specs.Calls.{listTo, openCall, changed, putBy, putCall, undoBy, undoCall, sumAt, valuesOf, mattesOf, showBy}
 use Rattle.plate.specs.Plain.{plainValues, plainMattes}
 use Rattle.plate.specs.Notebook.{openBook}
 use Rattle.plate.specs.Kept.{keptRead, canvasFirst, canvasBy, putKeptBy, putKeptCall, undoKeptBy, undoKeptCall, sumsOf, sumsBy, showKeptBy, showKeptCall}
-use Rattle.plate.specs.Painting.{canvasOf, StaysFresh, Dab, dab, stepBack, Painting, paint, paintAll, shownCanvas, shownPainting, PaintsFresh, firstForm, PaintsPlain}
+use Rattle.plate.specs.Painting.{canvasOf, StaysFresh, Dab, dab, stepBack, Painting, paint, paintAll, shownCanvas, shownPainting, AsMuch, PaintsFresh, firstForm, PaintsPlain}
 use Rattle.plate.specs.Lists.{Call, Plate, leftBy, plateStep, plateAfter, bookAfter}
 use Rattle.plate.specs.code.Bounds.{LawfulSize}
 use Rattle.plate.specs.code.Changing.{Changeable}
 use Rattle.plate.proofs.numbers.Lists.{length-listTo}
-use Rattle.plate.proofs.checks.Rows.{refused-not, check-passes}
+use Rattle.plate.proofs.checks.Rows.{check-passes}
 use Rattle.plate.proofs.checks.Passed.{sizes-passed, sizes-pass}
 use Rattle.plate.proofs.checks.Conditions.{canvas-checks}
 use Rattle.plate.proofs.changing.Changes.{no-change, put-ready, undo-ready}
+use Rattle.plate.proofs.laying.LaidCells.{length-exchanged}
 use Rattle.plate.proofs.demands.Exchanges.{mended-fresh}
 use Rattle.plate.proofs.demands.Demand.{values-plain, mattes-plain, opened}
 
@@ -68,21 +69,32 @@ stays-fresh = record { by-put = put-fresh; by-undo = undo-fresh }
 abbrev Fresh : Painting → Type 0
 Fresh p = p .kept ≡ canvasOf (p .plate .state .size) (p .plate .kept .planes)
 
--- neither call changes the size
-put-size : (r : ChangeRead) (s : State) (l : Lent) → putBy r s l .answer .state .size ≡ s .size
+-- neither call changes the size, nor how many cells the planes have
+abbrev StillAs : Plate → Plate → Type 0
+StillAs p q = (q .state .size ≡ p .state .size) × (length (q .kept .planes) ≡ length (p .kept .planes))
+
+put-still : (r : ChangeRead) (p : Plate) → StillAs p (leftBy (putBy r (p .state) (p .kept)))
 unfolding putBy changed
-put-size (NoChange f) s l = refl
-put-size (ToChange c) s l = refl
+put-still (NoChange f) p = (refl, refl)
+put-still (ToChange c) p = (refl, length-exchanged (p .state .size) (c .place) (c .old) (c .new) (p .kept .planes))
 
-undo-size : (r : ChangeRead) (s : State) (l : Lent) → undoBy r s l .answer .state .size ≡ s .size
+undo-still : (r : ChangeRead) (p : Plate) → StillAs p (leftBy (undoBy r (p .state) (p .kept)))
 unfolding undoBy changed
-undo-size (NoChange f) s l = refl
-undo-size (ToChange c) s l = refl
+undo-still (NoChange f) p = (refl, refl)
+undo-still (ToChange c) p = (refl, length-exchanged (p .state .size) (c .place) (c .old) (c .new) (p .kept .planes))
 
-paint-size : (p : Painting) (d : Dab) → paint p d .plate .state .size ≡ p .plate .state .size
+paint-still : (p : Painting) (d : Dab) → StillAs (p .plate) (paint p d .plate)
 unfolding paint putKeptCall putKeptBy undoKeptCall undoKeptBy
-paint-size p (dab x y v a s r) = put-size _ (p .plate .state) (p .plate .kept)
-paint-size p stepBack = undo-size _ (p .plate .state) (p .plate .kept)
+paint-still p (dab x y v a s r) = put-still _ (p .plate)
+paint-still p stepBack = undo-still _ (p .plate)
+
+paints-still : (p : Painting) (dabs : List Dab) → StillAs (p .plate) (paintAll p dabs .plate)
+unfolding paintAll
+paints-still p [] = (refl, refl)
+paints-still p (d ∷ dabs) =
+    let first = paint-still p d in
+    let rest = paints-still (paint p d) dabs in
+    (rest .0 ∙ first .0, rest .1 ∙ first .1)
 
 -- one call keeps it so
 paint-canvas : (p : Painting) (d : Dab) → Fresh p
@@ -93,7 +105,7 @@ paint-canvas p (dab x y v a s r) e =
 paint-canvas p stepBack e = rw e (undo-fresh (p .plate .state) (p .plate .kept))
 
 paint-fresh : (p : Painting) (d : Dab) → Fresh p → Fresh (paint p d)
-paint-fresh p d e = paint-canvas p d e ∙ ap (λ (z : Size). canvasOf z (paint p d .plate .kept .planes)) (sym (paint-size p d))
+paint-fresh p d e = paint-canvas p d e ∙ ap (λ (z : Size). canvasOf z (paint p d .plate .kept .planes)) (sym (paint-still p d .0))
 
 -- and so does a list of them
 paints-kept : (p : Painting) (dabs : List Dab) → Fresh p → Fresh (paintAll p dabs)
@@ -102,23 +114,23 @@ paints-kept p [] e = e
 paints-kept p (d ∷ dabs) e = paints-kept (paint p d) dabs (paint-fresh p d e)
 
 -- a show's answer is that of its check
-shown-by : (o : Outcome) (s : State) (planes : List ℕ) (v : Views) → showBy o s planes v .answer .outcome ≡ Accepted → o ≡ Accepted
+check-shown : (o : Outcome) (s : State) (planes : List ℕ) (v : Views) → showBy o s planes v .answer .outcome ≡ o
 unfolding showBy
-shown-by Accepted s planes v e = refl
-shown-by (Refused f) s planes v e = refused-not f e
+check-shown Accepted s planes v = refl
+check-shown (Refused f) s planes v = refl
 
 -- an accepted show of the second form leaves the state, and writes the plate's sums and pictures
 kept-shown : (s : State) (planes : List ℕ) (v : Views) (sums : List ℕ) →
     let shown = showKeptCall s planes v sums in
     shown .call .answer .outcome ≡ Accepted → (shown .call .answer .state ≡ s) × (shownCanvas shown ≡ canvasOf (s .size) planes)
 unfolding showKeptCall showKeptBy
-kept-shown s planes v sums e = rw (shown-by _ s planes v e) (unfold showBy sumsBy in (refl, refl))
+kept-shown s planes v sums e = rw (sym (check-shown _ s planes v) ∙ e) (unfold showBy sumsBy in (refl, refl))
 
 -- and its plate's size is lawful
 kept-lawful : (s : State) (planes : List ℕ) (v : Views) (sums : List ℕ)
     → showKeptCall s planes v sums .call .answer .outcome ≡ Accepted → LawfulSize (s .size)
 unfolding showKeptCall showKeptBy showKeptCheck
-kept-lawful s planes v sums e = sizes-passed (s .size) _ (shown-by _ s planes v e) .0
+kept-lawful s planes v sums e = sizes-passed (s .size) _ (sym (check-shown _ s planes v) ∙ e) .0
 
 -- a painting begins with what is the plate's
 shown-fresh : (p : Plate) (v : Views) (sums : List ℕ) →
@@ -128,10 +140,31 @@ shown-fresh p v sums e =
     let first = kept-shown (p .state) (p .kept .planes) v sums e in
     first .1 ∙ ap (λ (s : State). canvasOf (s .size) (p .kept .planes)) (sym (first .0))
 
+-- the check goes by the plate's size and by lengths alone
+same-check : (s s' : State) → s' .size ≡ s .size → (planes scratch values mattes sums : ℕ)
+    → showKeptCheck s' planes scratch values mattes sums ≡ showKeptCheck s planes scratch values mattes sums
+unfolding showKeptCheck showCheck
+same-check s s' e planes scratch values mattes sums = rw e
+
+-- so on a plate of the same size, with as many cells, a show that is lent as much has the same answer
+same-answer : (p q : Plate) (v v' : Views) (sums sums' : List ℕ) → StillAs p q → AsMuch v v' sums sums'
+    → showKeptCall (q .state) (q .kept .planes) v' sums' .call .answer .outcome
+    ≡ showKeptCall (p .state) (p .kept .planes) v sums .call .answer .outcome
+unfolding showKeptCall showKeptBy
+same-answer p q v v' sums sums' still much =
+    check-shown _ (q .state) (q .kept .planes) v'
+    ∙ rw (still .1, much .of-scratch, much .of-values, much .of-mattes, much .of-sums)
+    (same-check (p .state) (q .state) (still .0) _ _ _ _ _)
+    ∙ sym (check-shown _ (p .state) (p .kept .planes) v)
+
 pub paints-fresh : PaintsFresh
-paints-fresh p v sums dabs e v' sums' e' =
-    paints-kept (shownPainting p (showKeptCall (p .state) (p .kept .planes) v sums)) dabs (shown-fresh p v sums e)
-    ∙ sym (kept-shown _ _ v' sums' e' .1)
+paints-fresh p v sums dabs e v' sums' much =
+    let start = shownPainting p (showKeptCall (p .state) (p .kept .planes) v sums) in
+    let end = paintAll start dabs in
+    let size = ap (λ (s : State). s .size) (kept-shown (p .state) (p .kept .planes) v sums e .0) in
+    let still = paints-still start dabs in
+    let ok = same-answer p (end .plate) v v' sums sums' (still .0 ∙ size, still .1) much ∙ e in
+    (ok, paints-kept start dabs (shown-fresh p v sums e) ∙ sym (kept-shown _ _ v' sums' ok .1))
 
 -- THE FIRST FORMS
 -- sums and pictures of a plate have the lengths that are asked for
@@ -163,7 +196,7 @@ paint-plates : (p : Painting) (dabs : List Dab) → LawfulSize (p .plate .state 
 unfolding paintAll plateAfter
 paint-plates p [] law e = refl
 paint-plates p (d ∷ dabs) law e =
-    paint-plates (paint p d) dabs (rw (paint-size p d) law) (paint-fresh p d e)
+    paint-plates (paint p d) dabs (rw (paint-still p d .0) law) (paint-fresh p d e)
     ∙ ap (λ (q : Plate). plateAfter q (map firstForm dabs)) (paint-step p d law e)
 
 -- one list of calls after another
