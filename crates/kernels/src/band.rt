@@ -1,28 +1,29 @@
 // The rows of a kernel: what a pixel of opacity 1 adds to each cell of a row, without the kernel's marks.
 ghost use mathlib.Core.Path.{_≡_};
 ghost use Prim.Native.Nat.{_+_, _*_, _-_, _≤_, _<_};
-ghost use Rattle.kernels.specs.Fixed.{radii};
 ghost use Rattle.kernels.specs.Choice.{within, same};
-ghost use Rattle.kernels.specs.Shape.{topOf};
 ghost use Rattle.kernels.specs.Tap.{boxTap};
-ghost use Rattle.kernels.specs.Share.{shareParts};
-ghost use Rattle.kernels.specs.code.Bands.{heightOf, rowRadius, bandWeight, isLevel, FewTaps, BandOf};
+ghost use Rattle.kernels.specs.code.Bands.{heightOf, rowRadius, bandFor, bandWeight, isLevel};
 use crate::shape::Shape;
 use crate::shape::boxes;
+use crate::shape::top;
 use crate::share::Share;
 
-// One row of a kernel: the taps of some boxes convolved on one axis, what each is worth, and what the middle has besides.
+// One row of a kernel: the taps of some boxes convolved on one axis, times the row's own tap; what a tap is worth, and what the
+// middle has besides.
 pub struct Band {
-    // 1 for shapes of ones
-    pub boxes: usize,
+    // says how many boxes: 1 for shapes of ones
+    pub shape: Shape,
     // the radius of these boxes
-    pub radius: usize,
+    pub radius: u8,
     // the cells from the middle on that have a tap other than 0
     pub span: usize,
-    // the share, times the row's own tap; 0 where the row has no tap
-    pub each: u64,
+    // the row's own tap; 0 where the row has none
+    pub own: u8,
+    // the share
+    pub each: u32,
     // the remainder in the kernel's middle row, else 0
-    pub rest: u64,
+    pub rest: u32,
 }
 
 // a − b, and 0 where b is more.
@@ -38,7 +39,7 @@ pub fn less(a: usize, b: usize) -> usize
 // The tap d cells from the middle of boxes convolved. One box is level and two fall by 1 a cell. Three sum two up: 1, 3, 6, .. in
 // the e cells from the end on, less three times as much in the m of them past the first box.
 fn box_tap(boxes: usize, radius: usize, d: usize) -> u64
-    requires { ⌜ (1 ≤ boxes) × (boxes ≤ 3) × (radius < radii) ⌝ }
+    requires { ⌜ (1 ≤ boxes) × (boxes ≤ 3) × (radius < 256) ⌝ }
     ensures { λ r. ⌜ r ≡ boxTap boxes radius d ⌝ }
 {
     if boxes * radius < d {
@@ -57,7 +58,6 @@ fn box_tap(boxes: usize, radius: usize, d: usize) -> u64
 
 // The radius of the boxes in the column of the rows' own taps.
 fn height(s: Shape, radius: usize) -> usize
-    requires { ⌜ radius < radii ⌝ }
     ensures { λ r. ⌜ r ≡ heightOf s radius ⌝ }
 {
     match s {
@@ -86,7 +86,7 @@ fn row_radius(s: Shape, radius: usize, dy: usize) -> usize
 
 // How many cells from the middle on have a tap, in a row whose own tap is given.
 fn span_of(boxes: usize, radius: usize, own: u64) -> usize
-    requires { ⌜ (boxes ≤ 3) × (radius < radii) ⌝ }
+    requires { ⌜ (boxes ≤ 3) × (radius < 256) ⌝ }
     ensures { λ r. ⌜ r ≡ within 1 own (boxes * radius + 1) ⌝ }
 {
     if own == 0 {
@@ -96,7 +96,7 @@ fn span_of(boxes: usize, radius: usize, own: u64) -> usize
 }
 
 // A number in the middle alone.
-fn in_middle(d: usize, n: u64) -> u64
+fn in_middle(d: usize, n: u32) -> u32
     ensures { λ r. ⌜ r ≡ same d 0 n ⌝ }
 {
     if d == 0 {
@@ -105,55 +105,59 @@ fn in_middle(d: usize, n: u64) -> u64
     0
 }
 
-// The row of a kernel dy cells from its middle.
+// The row of a kernel dy cells from its middle, with what a tap is worth; no cells above the shape's top.
 pub fn band_of(s: Shape, radius: u8, share: Share, dy: usize) -> Band
-    requires { ⌜ radius ≤ topOf s ⌝ }
-    requires { ⌜ share ≡ shareParts s radius ⌝ }
-    ensures { λ r. ⌜ BandOf s radius dy r ⌝ }
+    ensures { λ r. ⌜ r ≡ bandFor s radius share dy ⌝ }
 {
+    if top(s) < radius as usize {
+        return Band {
+            shape: s,
+            radius: 0,
+            span: 0,
+            own: 0,
+            each: 0,
+            rest: 0,
+        };
+    }
     let n = boxes(s);
     let wide = row_radius(s, radius as usize, dy);
     let tall = height(s, radius as usize);
     let own = box_tap(n, tall, dy);
     let span = span_of(n, wide, own);
-    let rest = in_middle(dy, share.rest as u64);
+    let rest = in_middle(dy, share.rest);
     Band {
-        boxes: n,
-        radius: wide,
+        shape: s,
+        radius: wide as u8,
         span: span,
-        each: share.each as u64 * own,
+        own: own as u8,
+        each: share.each,
         rest: rest,
     }
 }
 
-// What the taps of a band add to a cell that has one: for one box no product.
-fn taps_at(band: Band, dx: usize) -> u64
-    requires { ⌜ FewTaps band ⌝ }
-    requires { ⌜ dx < band .span ⌝ }
-    ensures { λ r. ⌜ r ≡ band .each * boxTap (band .boxes) (band .radius) dx ⌝ }
-{
-    if band.boxes == 1 {
-        return band.each;
-    }
-    band.each * box_tap(band.boxes, band.radius, dx)
-}
-
 // What a pixel of opacity 1 adds to the cell dx cells from the middle of a band.
 pub fn weight_at(band: Band, dx: usize) -> u64
-    requires { ⌜ FewTaps band ⌝ }
     ensures { λ r. ⌜ r ≡ bandWeight band dx ⌝ }
 {
     if band.span <= dx {
         return 0;
     }
-    taps_at(band, dx) + in_middle(dx, band.rest)
+    let shape = band.shape;
+    let n = boxes(shape);
+    let worth = band.each as u64 * band.own as u64;
+    let middle = in_middle(dx, band.rest);
+    if n == 1 {
+        return worth + middle as u64;
+    }
+    worth * box_tap(n, band.radius as usize, dx) + middle as u64
 }
 
 // Whether all cells of a band that have a tap have the same weight.
 pub fn is_level(band: Band) -> bool
     ensures { λ r. ⌜ r ≡ isLevel band ⌝ }
 {
-    if band.boxes != 1 {
+    let shape = band.shape;
+    if boxes(shape) != 1 {
         return false;
     }
     band.rest == 0

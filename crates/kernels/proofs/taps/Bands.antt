@@ -1,23 +1,23 @@
 -- The rows of the kernels: each is boxes convolved along it, times its own tap, and where no tap is, is no weight.
-use mathlib.Core.Path.{_≡_, refl, sym, _∙_}
+use mathlib.Core.Path.{_≡_, refl, sym, ap, subst, _∙_}
 use mathlib.Core.Bool.{true, false}
 use mathlib.Core.Logic.{_≢_}
-use Prim.Native.Nat.{ℕ, _+_, _*_, _-_, _/_, _≤_, _<_, min}
+use Prim.Native.Nat.{ℕ, suc, _+_, _*_, _-_, _/_, _^_, _≤_, _<_, min}
 use native.Mathlib.Omega.{arith}
 use native.Mathlib.Nat.{mul-comm}
 use lib.Dec.{eqb}
-use borrow.Author.Tests.{eqb-true}
-use Rattle.kernels.specs.Fixed.{unit}
+use borrow.Author.Tests.{le-leb, lt-leb, eqb-true}
 use Rattle.kernels.specs.Choice.{within, same}
 use Rattle.kernels.specs.Shape.{Shape, Box, Tent, Triple, Diamond, Hexagon, Octagon, boxesOf, topOf}
 use Rattle.kernels.specs.Tap.{boxTap, half, octagonTap, tap, share, rest, weight}
-use Rattle.kernels.specs.code.Bands.{heightOf, rowRadius, Band, bandWeight, isLevel, FewTaps, BandOf}
+use Rattle.kernels.specs.Share.{Share, shareFrom, shareParts}
+use Rattle.kernels.specs.code.Bands.{heightOf, rowRadius, ownTap, spanOf, Band, rowBand, noBand, bandFor, bandTap, bandWeight, isLevel, BandOf}
 use Rattle.kernels.proofs.numbers.Choices.{by-test, by-lt, if-within, within-yes, within-no, within-as, if-same}
 use Rattle.kernels.proofs.numbers.Products.{product-le}
-use Rattle.kernels.proofs.taps.ShapeNumbers.{boxes-some, boxes-few, top-small}
 use Rattle.kernels.proofs.taps.TapForms.{box-far, one-box, box-tap}
 use Rattle.kernels.proofs.taps.Areas.{weight-le}
-use Rattle.kernels.proofs.taps.BoxTaps.{box-near}
+use Rattle.kernels.proofs.taps.Shares.{parts-under}
+use Rattle.kernels.proofs.taps.BoxTaps.{box-near, two-boxes, three-boxes}
 
 -- ROWS
 -- a tap that is 1 up to h cells from the middle of a row, in the rows up to k cells from the middle row
@@ -26,10 +26,6 @@ row-of-ones t k h dx dy near far =
     rw (one-box k dy, one-box h dx) (by-lt k dy
     (λ g. far g ∙ rw (within-no dy k 1 g) (omega arith))
     (λ g. near g ∙ rw (within-yes dy k 1 g) (omega arith)))
-
--- the row's own tap
-abbrev pub ownTap : Shape → ℕ → ℕ → ℕ
-ownTap s r dy = boxTap (boxesOf s) (heightOf s r) dy
 
 -- an octagon's row, for every t
 octagon-row : (r t dx dy : ℕ) → octagonTap r t dx dy ≡ boxTap 1 r dy * boxTap 1 (r - (dy - t)) dx
@@ -97,32 +93,12 @@ no-tap-no-weight s r dx dy e = rw e (omega (arith, off))
     off = if-same dx 0 _ 0 (λ x. if-same dy 0 _ 0 (λ y. absurd (centre-tap s r (rw (x, y) at e))) (λ n. refl)) (λ n. refl)
 
 -- THE BAND OF A ROW
--- the cells from the middle of a row on that have a tap
-abbrev pub spanOf : Shape → ℕ → ℕ → ℕ
-spanOf s r dy = within 1 (ownTap s r dy) (boxesOf s * rowRadius s r dy + 1)
-
 -- the whole row of boxes where the row has its own tap, and else none
 span-yes : (s : Shape) (r dy : ℕ) → 1 ≤ ownTap s r dy → spanOf s r dy ≡ boxesOf s * rowRadius s r dy + 1
 span-yes s r dy h = within-yes 1 (ownTap s r dy) _ h
 
 span-no : (s : Shape) (r dy : ℕ) → ownTap s r dy < 1 → spanOf s r dy ≡ 0
 span-no s r dy h = within-no 1 (ownTap s r dy) _ h
-
--- the band in closed form, as the code works it out
-abbrev pub rowBand : Shape → ℕ → ℕ → Band
-rowBand s r dy =
-    record {
-      boxes = boxesOf s;
-      radius = rowRadius s r dy;
-      span = spanOf s r dy;
-      each = share s r * ownTap s r dy;
-      rest = same dy 0 (rest s r);
-    }
-
--- a row's weights are the share times its taps, and the remainder
-row-weight : (s : Shape) (r dx dy : ℕ) → bandWeight (rowBand s r dy) dx ≡ weight s r dx dy
-unfolding bandWeight weight
-row-weight s r dx dy = rw (row-taps s r dx dy) (omega arith)
 
 -- below its span a row has taps
 row-some : (s : Shape) (r dx dy : ℕ) → dx < spanOf s r dy → tap s r dx dy ≢ 0
@@ -147,32 +123,39 @@ span-le : (s : Shape) (r dy : ℕ) → spanOf s r dy ≤ boxesOf s * rowRadius s
 span-le s r dy =
     by-lt (ownTap s r dy) 1 (λ g. omega (arith, span-no s r dy g)) (λ g. omega (arith, span-yes s r dy g))
 
--- the share times a row's own tap is at most the weight in the middle of the row, so at most the whole
-pub own-le : (s : Shape) (r dy : ℕ) → share s r * ownTap s r dy ≤ unit
+-- from its span on a band has no weight
+pub band-out : (b : Band) (dx : ℕ) → b .span ≤ dx → bandWeight b dx ≡ 0
 unfolding bandWeight
-own-le s r dy =
-    let each = share s r * ownTap s r dy in
-    let middle = boxTap (boxesOf s) (rowRadius s r dy) 0 in
-    omega (
-      arith,
-      product-le each 1 each middle (omega arith) (box-near (boxesOf s) (rowRadius s r dy) 0 (omega arith)),
-      row-weight s r 0 dy,
-      weight-le s r 0 dy,
-    )
+band-out b dx h = within-no (suc dx) (b .span) _ (omega arith)
+
+-- the row with the kernel's own share and remainder
+abbrev ownBand : Shape → ℕ → ℕ → Band
+ownBand s r dy = rowBand s r (shareFrom (share s r) (rest s r)) dy
+
+-- below its span the tap of its boxes is theirs
+near-tap : (s : Shape) (r dx dy : ℕ) → dx < spanOf s r dy → bandTap (ownBand s r dy) dx ≡ boxTap (boxesOf s) (rowRadius s r dy) dx
+near-tap s r dx dy h = by-test (eqb (boxesOf s) 1) one (λ e. rw e)
+  where
+    one : eqb (boxesOf s) 1 ≡ true → bandTap (ownBand s r dy) dx ≡ boxTap (boxesOf s) (rowRadius s r dy) dx
+    one e =
+        let single : boxesOf s ≡ 1 = eqb-true (boxesOf s) 1 e in
+        let cells : boxesOf s * rowRadius s r dy ≡ 1 * rowRadius s r dy = ap (λ (n : ℕ). n * rowRadius s r dy) single in
+        rw e (sym (ap (λ (n : ℕ). boxTap n (rowRadius s r dy) dx) single
+        ∙ one-box (rowRadius s r dy) dx ∙ within-yes dx (rowRadius s r dy) 1 (omega (arith, h, cells, span-le s r dy))))
+
+-- a row's weights are the share times its taps, and the remainder
+row-weight : (s : Shape) (r dx dy : ℕ) → bandWeight (ownBand s r dy) dx ≡ weight s r dx dy
+unfolding bandWeight weight
+row-weight s r dx dy =
+    by-lt dx (spanOf s r dy)
+    (λ g. within-yes (suc dx) (spanOf s r dy) _ g ∙ rw (near-tap s r dx dy g, row-taps s r dx dy) (omega arith))
+    (λ g. band-out (ownBand s r dy) dx g ∙ sym (no-tap-no-weight s r dx dy (row-none s r dx dy g)))
 
 -- it is the row of the kernel
-row-is : (s : Shape) (r dy : ℕ) → r ≤ topOf s → BandOf s r dy (rowBand s r dy)
-row-is s r dy h =
+row-is : (s : Shape) (r dy : ℕ) → BandOf s r dy (ownBand s r dy)
+row-is s r dy =
     record {
-      few =
-          record {
-            some = boxes-some s;
-            most = boxes-few s;
-            low = omega (arith, row-narrow s r dy, top-small s);
-            reaches = span-le s r dy;
-            none = λ dx g. row-weight s r dx dy ∙ no-tap-no-weight s r dx dy (row-none s r dx dy g);
-            small = λ dx. rw (row-weight s r dx dy) (weight-le s r dx dy);
-          };
+      few = λ dx. rw (row-weight s r dx dy) (weight-le s r dx dy);
       weight-is = λ dx. row-weight s r dx dy;
       has-tap = λ dx. row-some s r dx dy;
       no-tap = λ dx. row-none s r dx dy;
@@ -180,33 +163,71 @@ row-is s r dy h =
           omega (arith, span-le s r dy, product-le (boxesOf s) (rowRadius s r dy) (boxesOf s) r (omega arith) (row-narrow s r dy));
     }
 
--- and so is a band with the same numbers
-pub row-band : (s : Shape) (r dy : ℕ) → r ≤ topOf s → (b : Band)
-    → b .boxes ≡ boxesOf s → b .radius ≡ rowRadius s r dy → b .span ≡ spanOf s r dy
-    → b .each ≡ share s r * ownTap s r dy → b .rest ≡ same dy 0 (rest s r)
-    → BandOf s r dy b
-row-band s r dy h b boxes radius span each rest = rw made (row-is s r dy h)
-  where
-    made : b ≡ rowBand s r dy
-    made = λ i. record { boxes = boxes i; radius = radius i; span = span i; each = each i; rest = rest i }
+-- and so is the row that is handed out, up to the shape's top
+pub band-under : (s : Shape) (r : ℕ) (q : Share) (dy : ℕ) → r ≤ topOf s → bandFor s r q dy ≡ rowBand s r q dy
+unfolding bandFor
+band-under s r q dy h = rw (le-leb r (topOf s) h)
+
+pub band-above : (s : Shape) (r : ℕ) (q : Share) (dy : ℕ) → topOf s < r → bandFor s r q dy ≡ noBand s
+unfolding bandFor
+band-above s r q dy h = rw (lt-leb r (topOf s) h)
+
+pub band-is : (s : Shape) (r dy : ℕ) → r ≤ topOf s → BandOf s r dy (bandFor s r (shareParts s r) dy)
+band-is s r dy h =
+    subst (λ (q : Share). BandOf s r dy (bandFor s r q dy)) (sym (parts-under s r h))
+    (rw (band-under s r (shareFrom (share s r) (rest s r)) dy h) (row-is s r dy))
+
+-- HOW LARGE TAPS ARE
+one-le : (r d : ℕ) → boxTap 1 r d ≤ 1
+one-le r d =
+    by-lt r d
+    (λ g. omega (arith, one-box r d, within-no d r 1 g))
+    (λ g. omega (arith, one-box r d, within-yes d r 1 g))
+
+two-le : (r d : ℕ) → boxTap 2 r d ≤ 2 * r + 1
+two-le r d = omega (arith, two-boxes r d)
+
+three-le : (r d : ℕ) → 2 * boxTap 3 r d ≤ (3 * r + 1) * (3 * r + 2)
+three-le r d =
+    by-lt (3 * r) d
+    (λ g. omega (arith, box-far 3 r d g))
+    (λ g. omega (arith, three-boxes r d g, product-le (3 * r + 1 - d) (3 * r + 1 - d + 1) (3 * r + 1) (3 * r + 2) (omega arith) (omega arith)))
+
+-- a row's own tap is a byte
+pub own-small : (s : Shape) (r dy : ℕ) → r ≤ topOf s → ownTap s r dy < 256
+own-small Box r dy h = omega (arith, one-le r dy)
+own-small Tent r dy h = omega (arith, two-le r dy)
+own-small Triple r dy h = omega (arith, three-le r dy, product-le (3 * r + 1) (3 * r + 2) 10 11 (omega arith) (omega arith))
+own-small Diamond r dy h = omega (arith, one-le r dy)
+own-small Hexagon r dy h = omega (arith, one-le (2 * half r) dy)
+own-small Octagon r dy h = omega (arith, one-le r dy)
+
+-- and for any radius that is a byte, boxes have taps below 2 ^ 20
+pub tap-small : (s : Shape) (r d : ℕ) → r < 256 → boxTap (boxesOf s) r d < 2 ^ 20
+tap-small Box r d h = omega (arith, one-le r d)
+tap-small Tent r d h = omega (arith, two-le r d)
+tap-small Triple r d h = omega (arith, three-le r d, product-le (3 * r + 1) (3 * r + 2) 766 767 (omega arith) (omega arith))
+tap-small Diamond r d h = omega (arith, one-le r d)
+tap-small Hexagon r d h = omega (arith, one-le r d)
+tap-small Octagon r d h = omega (arith, one-le r d)
 
 -- LEVEL BANDS
 -- all cells of one that have a tap weigh as much as the middle
-pub level-weight : (b : Band) → FewTaps b → isLevel b ≡ true → (dx : ℕ) → dx < b .span → bandWeight b dx ≡ bandWeight b 0
+pub level-weight : (b : Band) → isLevel b ≡ true → (dx : ℕ) → dx < b .span → bandWeight b dx ≡ bandWeight b 0
 unfolding isLevel bandWeight
-level-weight b few level dx h = by-test (eqb (b .boxes) 1) one (λ e. absurd (wrong e))
+level-weight b level dx h =
+    within-yes (suc dx) (b .span) _ h
+    ∙ by-test (eqb (boxesOf (b .shape)) 1) one (λ e. absurd (wrong e))
+    ∙ sym (within-yes 1 (b .span) _ (omega arith))
   where
     no-rest : (d : ℕ) → same d 0 0 ≡ 0
     no-rest d = if-same d 0 0 0 (λ _. refl) (λ _. refl)
 
-    wrong : eqb (b .boxes) 1 ≡ false → ⊥
+    wrong : eqb (boxesOf (b .shape)) 1 ≡ false → ⊥
     wrong e = let g : false ≡ true = rw e at level in let z : _≡_ {A = ℕ} 0 1 = cc in omega arith
 
-    one : eqb (b .boxes) 1 ≡ true → b .each * boxTap (b .boxes) (b .radius) dx + same dx 0 (b .rest) ≡ b .each * boxTap (b .boxes) (b .radius) 0 + same 0 0 (b .rest)
+    one : eqb (boxesOf (b .shape)) 1 ≡ true
+        → b .each * b .own * bandTap b dx + same dx 0 (b .rest) ≡ b .each * b .own * bandTap b 0 + same 0 0 (b .rest)
     one e =
-        let single : b .boxes ≡ 1 = eqb-true (b .boxes) 1 e in
         let none : b .rest ≡ 0 = eqb-true (b .rest) 0 (rw e at level) in
-        let most : b .span ≤ 1 * b .radius + 1 = rw single at (few .reaches) in
-        let near : dx ≤ b .radius = omega (arith, h, most) in
-        rw (single, none, one-box (b .radius) dx, one-box (b .radius) 0, within-yes dx (b .radius) 1 near, within-yes 0 (b .radius) 1 (omega arith))
-        (omega (arith, no-rest dx, no-rest 0))
+        rw (e, none) (omega (arith, no-rest dx, no-rest 0))

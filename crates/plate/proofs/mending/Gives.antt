@@ -9,7 +9,7 @@ use Rattle.plate.specs.code.Mending.{Given, GivenIn, GivesFew, givenAt}
 
 -- in matte, and in light
 pub matte-small : (g : Given) (dx : ℕ) → GivesFew g → givenAt g dx ≤ opacityTop * unit
-matte-small g dx h = product-le _ _ opacityTop unit (h .opacity-fits) (h .few .small dx)
+matte-small g dx h = product-le _ _ opacityTop unit (h .opacity-fits) (h .few dx)
 
 pub light-small : (g : Given) (dx : ℕ) → GivesFew g → g .value * givenAt g dx ≤ valueTop * (opacityTop * unit)
 light-small g dx h = product-le _ _ valueTop (opacityTop * unit) (h .value-fits) (matte-small g dx h)

@@ -8,9 +8,9 @@ use native.Mathlib.Nat.{div-add-mod', mod-lt, add-mod-mod}
 use lib.ListN.{getD, length}
 use Rattle.kernels.specs.Sum.{dist}
 use Rattle.kernels.specs.Mark.{minus}
-use Rattle.kernels.specs.code.Bands.{isLevel, FewTaps}
+use Rattle.kernels.specs.code.Bands.{isLevel}
 use Rattle.kernels.proofs.numbers.Choices.{by-lt}
-use Rattle.kernels.proofs.taps.Bands.{level-weight}
+use Rattle.kernels.proofs.taps.Bands.{band-out, level-weight}
 use Rattle.plate.specs.Layout.{Size, places, sumsInAll, matteFrom}
 use Rattle.plate.specs.Lent.{Canvas, canvas}
 use Rattle.plate.specs.Change.{Change}
@@ -71,11 +71,11 @@ both-runs k a b G G₀ H H₀ so sn dx old-in old-out new-in new-out near =
     none-less n = unfold minus in (omega arith)
 
 -- what a level row gives a cell: the same in its run, and nothing outside
-given-in : (g : Given) (dx : ℕ) → FewTaps (g .band) → isLevel (g .band) ≡ true → dx < g .band .span → givenAt g dx ≡ givenAt g 0
-given-in g dx few level h = ap (λ (w : ℕ). g .opacity * w) (level-weight (g .band) few level dx h)
+given-in : (g : Given) (dx : ℕ) → isLevel (g .band) ≡ true → dx < g .band .span → givenAt g dx ≡ givenAt g 0
+given-in g dx level h = ap (λ (w : ℕ). g .opacity * w) (level-weight (g .band) level dx h)
 
-given-out : (g : Given) (dx : ℕ) → FewTaps (g .band) → g .band .span ≤ dx → givenAt g dx ≡ 0
-given-out g dx few h = rw (few .none dx h) (omega arith)
+given-out : (g : Given) (dx : ℕ) → g .band .span ≤ dx → givenAt g dx ≡ 0
+given-out g dx h = rw (band-out (g .band) dx h) (omega arith)
 
 -- the cells of a line that are nearer than a span to the one at a column
 abbrev pub Around : ℕ → ℕ → ℕ → Stretch → Type 0
@@ -120,21 +120,21 @@ module _ (z : Size) (c : Change) (row : ℕ) (old new : Given) (k : Canvas) (r :
       (old .band .span) (new .band .span) dx
       (λ h. (
         taken .light-in x (omega (arith, old-around .0, h)) (omega (arith, old-around .1, h, inside)),
-        ap (λ (w : ℕ). old .value * w) (given-in old dx (r .old-is .band-is .few) old-level h),
+        ap (λ (w : ℕ). old .value * w) (given-in old dx old-level h),
       ))
       (λ h. (
         taken .rest _ (λ x' low high e. out-of-run _ old-run old-around x inside h x' low high (omega arith))
             (λ x' low high e. omega (arith, in-place x inside)),
-        rw (given-out old dx (r .old-is .band-is .few) h) (omega arith),
+        rw (given-out old dx h) (omega arith),
       ))
       (λ h. (
         given .light-in x (omega (arith, new-around .0, h)) (omega (arith, new-around .1, h, inside)),
-        ap (λ (w : ℕ). new .value * w) (given-in new dx (r .new-is .band-is .few) new-level h),
+        ap (λ (w : ℕ). new .value * w) (given-in new dx new-level h),
       ))
       (λ h. (
         given .rest _ (λ x' low high e. out-of-run _ new-run new-around x inside h x' low high (omega arith))
             (λ x' low high e. omega (arith, in-place x inside)),
-        rw (given-out new dx (r .new-is .band-is .few) h) (omega arith),
+        rw (given-out new dx h) (omega arith),
       ))
       (omega (arith, near, wider))
 
@@ -145,21 +145,21 @@ module _ (z : Size) (c : Change) (row : ℕ) (old new : Given) (k : Canvas) (r :
       both-runs _ _ _ (givenAt old dx) (givenAt old 0) (givenAt new dx) (givenAt new 0) (old .band .span) (new .band .span) dx
       (λ h. (
         taken .matte-in x (omega (arith, old-around .0, h)) (omega (arith, old-around .1, h, inside)),
-        given-in old dx (r .old-is .band-is .few) old-level h,
+        given-in old dx old-level h,
       ))
       (λ h. (
         taken .rest _ (λ x' low high e. omega (arith, in-place x' (omega (arith, high, old-around .1)), e))
             (λ x' low high e. out-of-run _ old-run old-around x inside h x' low high (omega arith)),
-        given-out old dx (r .old-is .band-is .few) h,
+        given-out old dx h,
       ))
       (λ h. (
         given .matte-in x (omega (arith, new-around .0, h)) (omega (arith, new-around .1, h, inside)),
-        given-in new dx (r .new-is .band-is .few) new-level h,
+        given-in new dx new-level h,
       ))
       (λ h. (
         given .rest _ (λ x' low high e. omega (arith, in-place x' (omega (arith, high, new-around .1)), e))
             (λ x' low high e. out-of-run _ new-run new-around x inside h x' low high (omega arith)),
-        given-out new dx (r .new-is .band-is .few) h,
+        given-out new dx h,
       ))
       (omega (arith, near, wider))
 

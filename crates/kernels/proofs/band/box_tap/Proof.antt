@@ -1,6 +1,6 @@
 -- `band::box_tap` meets its contract: past the boxes' reach there is no tap, and up to it each number of boxes has its closed form.
 use mathlib.Core.Path.{_≡_, sym, _∙_}
-use Prim.Native.Nat.{ℕ, _+_, _*_, _-_, _≤_}
+use Prim.Native.Nat.{ℕ, _+_, _*_, _-_, _≤_, _<_}
 use native.Mathlib.Omega.{arith}
 use mir.Val.{Fits}
 use mir.Syntax.{w64}
@@ -13,9 +13,9 @@ use borrow.Author.Needs.{needs}
 use Rattle.kernels.proofs.band.box_tap.Statement.{statement}
 use Rattle.kernels.proofs.band.box_tap.Tie as tie
 
--- two factors of at most 255 have a product that 64 bits hold, three times over
-thrice-fits : (a b : ℕ) → a ≤ 255 → b ≤ 255 → Fits w64 (3 * (a * b))
-thrice-fits a b p q = omega (arith, product-le a b 255 255 p q)
+-- two factors below 1,000 have a product that 64 bits hold, three times over
+thrice-fits : (a b : ℕ) → a < 1000 → b < 1000 → Fits w64 (3 * (a * b))
+thrice-fits a b p q = omega (arith, product-le a b 1000 1000 (omega arith) (omega arith))
 
 -- the cell lies in the reach of two boxes, and of three
 in-two : (c : tie.Then3) → c .before .before .before .args .d ≤ 2 * c .before .before .before .args .radius

@@ -1,19 +1,21 @@
 -- `band::is_level` meets its contract: both tests are the definition's.
+use mathlib.Core.Path.{sym, _∙_}
 use borrow.Author.Needs.{needs}
 use borrow.Author.Tests.{eq-eqb, ne-eqb}
 use Rattle.kernels.specs.code.Bands.{isLevel}
 use Rattle.kernels.proofs.band.is_level.Statement.{statement}
 use Rattle.kernels.proofs.band.is_level.Tie as tie
 
-ruleset tests = (needs, eq-eqb, ne-eqb)
+boxes-requires : tie.Need-boxes-requires
+boxes-requires c κs = search needs
 
 returns : tie.Need-returns
 unfolding isLevel
-returns c = search tests
+returns c = rw (ne-eqb _ 1 (rw (c .before .boxes .ensures) at (c .if1 .taken)))
 
 returns-2 : tie.Need-returns-2
 unfolding isLevel
-returns-2 c = search tests
+returns-2 c = rw (eq-eqb _ 1 (sym (c .before .before .boxes .ensures) ∙ c .before .if1 .left))
 
 pub is-level-spec : {M : Type 1} → statement M
-is-level-spec = tie.close (tie.spec returns returns-2)
+is-level-spec = tie.close (tie.spec boxes-requires returns returns-2)

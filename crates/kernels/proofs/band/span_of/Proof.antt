@@ -8,8 +8,8 @@ use Rattle.kernels.proofs.band.span_of.Statement.{statement}
 use Rattle.kernels.proofs.band.span_of.Tie as tie
 
 -- the cells of the boxes on one side
-few-cells : (c : tie.Else1) → c .before .args .boxes * c .before .args .radius ≤ 3 * 64
-few-cells c = product-le _ _ 3 64 (omega arith) (omega arith)
+few-cells : (c : tie.Else1) → c .before .args .boxes * c .before .args .radius ≤ 3 * 255
+few-cells c = product-le _ _ 3 255 (omega arith) (omega arith)
 
 returns : tie.Need-returns
 returns c = sym (within-no 1 _ _ (omega arith))

@@ -1,31 +1,134 @@
--- `band::weight_at` meets its contract: from its span on a band has no weight, and below it the sum is the definition's, which is
--- at most the whole.
-use mathlib.Core.Path.{sym}
+-- `band::weight_at` meets its contract: from its span on a band has no weight, and below it the sum is the definition's, whose
+-- factors are small enough by their types and the boxes' taps.
+use mathlib.Core.Path.{_≡_, ap, sym, _∙_}
+use Prim.Native.Nat.{ℕ, suc, _+_, _*_, _^_, _≤_, _<_}
 use native.Mathlib.Omega.{arith}
-use Rattle.kernels.specs.code.Bands.{bandWeight}
+use borrow.Author.Tests.{eq-eqb, ne-eqb}
+use Rattle.kernels.specs.Choice.{same}
+use Rattle.kernels.specs.Shape.{boxesOf}
+use Rattle.kernels.specs.Tap.{boxTap}
+use Rattle.kernels.specs.code.Bands.{bandTap, bandWeight}
+use Rattle.kernels.proofs.numbers.Choices.{by-eq, within-yes, same-yes, same-no}
+use Rattle.kernels.proofs.numbers.Products.{product-le}
+use Rattle.kernels.proofs.taps.ShapeNumbers.{boxes-some, boxes-few}
+use Rattle.kernels.proofs.taps.Bands.{band-out, tap-small}
 use borrow.Author.Needs.{needs}
 use Rattle.kernels.proofs.band.weight_at.Statement.{statement}
 use Rattle.kernels.proofs.band.weight_at.Tie as tie
 
-returns : tie.Need-returns
-returns c = sym (c .before .before .pre .none _ (c .if1 .taken))
+-- where the call starts
+abbrev start : tie.After-in-middle → tie.Start
+start c = c .before .before .before .before .before .before
 
-taps-at-requires : tie.Need-taps-at-requires
-taps-at-requires c κs = search needs
+-- what a tap is worth, times the row's own tap
+worth-low : (s : tie.Start) → s .args .band .each * s .args .band .own ≤ 2 ^ 32 * 2 ^ 8
+worth-low s = product-le _ _ (2 ^ 32) (2 ^ 8) (omega (arith, s .good)) (omega (arith, s .good))
+
+-- a number in the middle alone is no larger
+same-le : (d n : ℕ) → same d 0 n ≤ n
+same-le d n = by-eq d 0 (λ e. omega (arith, same-yes d 0 n e)) (λ k. omega (arith, same-no d 0 n k))
+
+middle-low : (c : tie.After-in-middle) → c .in-middle .result ≤ 2 ^ 32
+middle-low c =
+    let s = start c in omega (arith, c .in-middle .ensures, same-le (s .args .dx) (s .args .band .rest), s .good)
+
+-- the tap is the boxes', and below 2 ^ 20
+tap-known : (c : tie.After-box-tap) → let a = start (c .before .before .before) .args in
+    c .box-tap .result ≡ boxTap (boxesOf (a .band .shape)) (a .band .radius) (a .dx)
+tap-known c =
+    let a = start (c .before .before .before) .args in
+    c .box-tap .ensures
+    ∙ ap (λ (n : ℕ). boxTap n (a .band .radius) (a .dx)) (c .before .before .before .before .before .before .boxes .ensures)
+
+taps-low : (c : tie.After-box-tap) → let b = start (c .before .before .before) .args .band in
+    b .each * b .own * c .box-tap .result ≤ 2 ^ 32 * 2 ^ 8 * 2 ^ 20
+taps-low c =
+    let s = start (c .before .before .before) in
+    let small = tap-small (s .args .band .shape) (s .args .band .radius) (s .args .dx) (omega (arith, s .good)) in
+    product-le _ _ (2 ^ 32 * 2 ^ 8) (2 ^ 20) (worth-low s) (omega (arith, tap-known c, small))
+
+returns : tie.Need-returns
+returns c = sym (band-out _ _ (c .if1 .taken))
+
+boxes-requires : tie.Need-boxes-requires
+boxes-requires c κs = search needs
+
+cast-worth : tie.Need-cast-worth
+cast-worth c = search needs
+
+cast-worth-2 : tie.Need-cast-worth-2
+cast-worth-2 c = search needs
+
+mul-worth : tie.Need-mul-worth
+mul-worth c = omega (arith, worth-low (c .before .before .before .before .before))
 
 in-middle-requires : tie.Need-in-middle-requires
 in-middle-requires c κs = search needs
 
+cast-result : tie.Need-cast-result
+cast-result c = search needs
+
 add-result : tie.Need-add-result
-unfolding bandWeight
-add-result c =
-    let start = c .before .before .before .before in
-    rw (c .before .taps-at .ensures, c .in-middle .ensures) (omega (arith, start .pre .small (start .args .dx)))
+add-result c = omega (arith, worth-low (start (c .before)), middle-low (c .before))
 
 returns-2 : tie.Need-returns-2
 unfolding bandWeight
-returns-2 c = rw (c .before .taps-at .ensures, c .in-middle .ensures)
+returns-2 c =
+    let made = c .before in
+    let b = start made .args .band in
+    let else = made .before .before .before .before in
+    let one : bandTap b (start made .args .dx) ≡ 1 =
+    rw (eq-eqb (boxesOf (b .shape)) 1 (sym (made .before .before .before .boxes .ensures) ∙ c .if2 .taken)) in
+    (λ i. b .each * b .own + made .in-middle .ensures i)
+    ∙ omega (arith, ap (λ (n : ℕ). b .each * b .own * n) one)
+    ∙ sym (within-yes (suc _) _ _ (else .if1 .left))
+
+cast-box-tap : tie.Need-cast-box-tap
+cast-box-tap c = search needs
+
+box-tap-requires : tie.Need-box-tap-requires
+box-tap-requires c κs =
+    let s = start (c .before .before) in
+    let b = s .args .band in
+    omega (arith, c .before .before .before .before .before .boxes .ensures, boxes-some (b .shape), boxes-few (b .shape), s .good)
+
+mul-result : tie.Need-mul-result
+mul-result c = omega (arith, taps-low c)
+
+cast-result-2 : tie.Need-cast-result-2
+cast-result-2 c = search needs
+
+add-result-2 : tie.Need-add-result-2
+add-result-2 c = omega (arith, taps-low c, middle-low (c .before .before .before))
+
+returns-3 : tie.Need-returns-3
+unfolding bandWeight
+returns-3 c =
+    let made = c .before .before .before in
+    let b = start made .args .band in
+    let else = made .before .before .before .before in
+    let more = rw (made .before .before .before .boxes .ensures) at (c .before .before .if2 .left) in
+    let tap : boxTap (boxesOf (b .shape)) (b .radius) (start made .args .dx) ≡ bandTap b (start made .args .dx) =
+    rw (ne-eqb (boxesOf (b .shape)) 1 more) in
+    (λ i. b .each * b .own * (tap-known c ∙ tap) i + made .in-middle .ensures i)
+    ∙ sym (within-yes (suc _) _ _ (else .if1 .left))
 
 pub weight-at-spec : {M : Type 1} → statement M
 weight-at-spec =
-    tie.close (tie.spec returns taps-at-requires in-middle-requires add-result returns-2)
+    tie.close
+    (tie.spec
+    returns
+    boxes-requires
+    cast-worth
+    cast-worth-2
+    mul-worth
+    in-middle-requires
+    cast-result
+    add-result
+    returns-2
+    cast-box-tap
+    box-tap-requires
+    mul-result
+    cast-result-2
+    add-result-2
+    returns-3)

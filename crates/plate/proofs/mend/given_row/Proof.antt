@@ -1,0 +1,33 @@
+-- `mend::given_row` meets its contract: the row that is handed out, with the kernel's own share, is that of the kernel.
+use mathlib.Core.Path.{_≡_, refl, sym, ap, subst, _∙_}
+use borrow.Author.Needs.{needs}
+use Rattle.kernels.specs.declared.share.Share.{Share}
+use Rattle.kernels.specs.declared.band.Band.{Band}
+use Rattle.kernels.specs.code.Bands.{bandFor, BandOf}
+use Rattle.kernels.proofs.taps.Bands.{band-is}
+use Rattle.plate.proofs.mend.given_row.Statement.{statement}
+use Rattle.plate.proofs.mend.given_row.Tie as tie
+
+-- so it has the kernel's weights and taps
+of-kernel : (c : tie.After-band-of) → let a = c .before .args in BandOf (a .p .shape) (a .p .radius) (a .dy) (c .band-of .result)
+of-kernel c =
+    let s = c .before in
+    let p = s .args .p in
+    let dy = s .args .dy in
+    let e = c .band-of .ensures ∙ ap (λ (q : Share). bandFor (p .shape) (p .radius) q dy) (s .pre .1) in
+    subst (λ (b : Band). BandOf (p .shape) (p .radius) dy b) (sym e) (band-is (p .shape) (p .radius) dy (s .pre .0))
+
+band-of-requires : tie.Need-band-of-requires
+band-of-requires c κs = search needs
+
+cast-t6 : tie.Need-cast-t6
+cast-t6 c = search needs
+
+cast-t7 : tie.Need-cast-t7
+cast-t7 c = search needs
+
+returns : tie.Need-returns
+returns c = record { value-is = refl; opacity-is = refl; band-is = of-kernel (c .before .before) }
+
+pub given-row-spec : {M : Type 1} → statement M
+given-row-spec = tie.close (tie.spec band-of-requires cast-t6 cast-t7 returns)
