@@ -1,6 +1,6 @@
 -- The rows of the kernels: each is boxes convolved along it, times its own tap, and where no tap is, is no weight.
 use mathlib.Core.Path.{_≡_, refl, sym, ap, subst, _∙_}
-use mathlib.Core.Bool.{true, false}
+use mathlib.Core.Bool.{true}
 use mathlib.Core.Logic.{_≢_}
 use Prim.Native.Nat.{ℕ, suc, _+_, _*_, _-_, _/_, _^_, _≤_, _<_, min}
 use native.Mathlib.Omega.{arith}
@@ -16,6 +16,7 @@ use Rattle.kernels.proofs.numbers.Choices.{by-test, by-lt, if-within, w
 use Rattle.kernels.proofs.numbers.Products.{product-le}
 use Rattle.kernels.proofs.taps.TapForms.{box-far, one-box, box-tap}
 use Rattle.kernels.proofs.taps.Areas.{weight-le}
+use Rattle.kernels.proofs.taps.ValueLists.{both-true}
 use Rattle.kernels.proofs.taps.Shares.{parts-under}
 use Rattle.kernels.proofs.taps.BoxTaps.{box-near, two-boxes, three-boxes}
 
@@ -216,18 +217,10 @@ tap-small Octagon r d h = omega (arith, one-le r d)
 pub level-weight : (b : Band) → isLevel b ≡ true → (dx : ℕ) → dx < b .span → bandWeight b dx ≡ bandWeight b 0
 unfolding isLevel bandWeight
 level-weight b level dx h =
+    let both = both-true (eqb (boxesOf (b .shape)) 1) (eqb (b .rest) 0) level in
     within-yes (suc dx) (b .span) _ h
-    ∙ by-test (eqb (boxesOf (b .shape)) 1) one (λ e. absurd (wrong e))
+    ∙ rw (both .0, eqb-true (b .rest) 0 (both .1)) (omega (arith, no-rest dx, no-rest 0))
     ∙ sym (within-yes 1 (b .span) _ (omega arith))
   where
     no-rest : (d : ℕ) → same d 0 0 ≡ 0
     no-rest d = if-same d 0 0 0 (λ _. refl) (λ _. refl)
-
-    wrong : eqb (boxesOf (b .shape)) 1 ≡ false → ⊥
-    wrong e = let g : false ≡ true = rw e at level in let z : _≡_ {A = ℕ} 0 1 = cc in omega arith
-
-    one : eqb (boxesOf (b .shape)) 1 ≡ true
-        → b .each * b .own * bandTap b dx + same dx 0 (b .rest) ≡ b .each * b .own * bandTap b 0 + same 0 0 (b .rest)
-    one e =
-        let none : b .rest ≡ 0 = eqb-true (b .rest) 0 (rw e at level) in
-        rw (e, none) (omega (arith, no-rest dx, no-rest 0))

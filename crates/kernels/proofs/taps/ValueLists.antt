@@ -16,7 +16,7 @@ valuesFrom f k [] = true
 valuesFrom f k (x ∷ xs) = pick (eqb x (f k)) (valuesFrom f (suc k) xs) false
 
 -- a test of both parts
-both-true : (a b : Bool) → pick a b false ≡ true → (a ≡ true) × (b ≡ true)
+pub both-true : (a b : Bool) → pick a b false ≡ true → (a ≡ true) × (b ≡ true)
 both-true true b e = (refl, e)
 both-true false b e = absurd (no e)
   where

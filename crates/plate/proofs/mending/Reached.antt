@@ -1,5 +1,5 @@
 -- Which cells are in reach: by the taps of the two kernels, and so by their rows.
-use mathlib.Core.Path.{_≡_, refl}
+use mathlib.Core.Path.{_≡_, refl, sym}
 use mathlib.Core.Bool.{Bool, true, false, not}
 use mathlib.Core.Logic.{_≢_, _⊎_, inl, inr, ⊎-elim}
 use Prim.Native.Nat.{ℕ, _+_, _-_, _/_, _%_, _≤_, _<_}
@@ -38,10 +38,7 @@ tap-reaches z c i h = by-taps (tapAt z (c .old) (c .place) i) (tapAt z (c .new) 
 pub no-tap-reaches : (z : Size) (c : Change) (i : ℕ) → tapAt z (c .old) (c .place) i ≡ 0 → tapAt z (c .new) (c .place) i ≡ 0
     → inReach z c i ≡ true → ⊥
 unfolding inReach
-no-tap-reaches z c i e f h =
-    let g : false ≡ true = (rw (e, f) at h) in
-    let n : _≡_ {A = ℕ} 0 1 = cc in
-    omega arith
+no-tap-reaches z c i e f h = true-not (sym (rw (e, f) at h))
 
 -- and a cell that is not in reach is one where both taps are 0
 none-of-taps : (a b : Bool) → pick a (not b) true ≡ false → (a ≡ true) × (b ≡ true)
