@@ -12,7 +12,7 @@
  *     planes      14 x P           the marks of all pixels
  *     pixels      W x H            the pixels, place y x W + x
  *     log         0 to 65,535      the undo log, one entry for each put that can be undone
- *     scratch     3 x P            any contents; left all zero by an accepted show
+ *     scratch     3 x P            any contents; left all zero by an accepted show or total
  *     values, opacities, depths, mattes    W x H each, row by row
  *     sums        2 x W x H        finished sums: all light by place, then all matte
  *
@@ -62,6 +62,9 @@ typedef struct { uint32_t opening, focal, focus, pitch; } lens_lens;
  * open. */
 typedef struct { uint32_t number, marks; lens_state state; } lens_answer;
 
+/* What lens_total answers: both sums are 0 in a refused call. */
+typedef struct { lens_answer answer; uint64_t matte, light; } lens_totals;
+
 /* Makes every pixel empty and clears planes, pixels and log. Refuses 1, 2. */
 lens_answer lens_open(size_t width, size_t height, size_t reach,
                       uint64_t *planes, size_t planes_len,
@@ -102,6 +105,18 @@ lens_answer lens_show(lens_state state,
                       uint64_t *scratch, size_t scratch_len,
                       uint16_t *values, size_t values_len,
                       uint8_t *mattes, size_t mattes_len);
+
+/* Adds up a plate: the sums of finished matte and of finished light, which show rounds its
+ * pictures from, over all cells of the padded planes, the P of them, not only the image's;
+ * wrapped to 64 bits.
+ *
+ * Light is neither made nor lost. On a plate that was opened and changed only by the calls
+ * here, matte is 8,388,608 times the sum of all opacities, and light 8,388,608 times the sum
+ * of opacity x value, wherever the kernels reach; and neither wraps. Any contents of the
+ * planes are safe. Leaves scratch all zero. Refuses 1, 2. */
+lens_totals lens_total(lens_state state,
+                       const uint64_t *planes, size_t planes_len,
+                       uint64_t *scratch, size_t scratch_len);
 
 /* Refresh under the brush: show, put and undo once more, for a painter who looks at the
  * pictures after every put. The caller keeps sums and pictures from one of these calls to

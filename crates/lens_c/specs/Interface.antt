@@ -4,14 +4,17 @@ use Prim.Native.Nat.{ℕ}
 use Rattle.kernels.specs.declared.lens.Lens.{Lens}
 use Rattle.plate.specs.declared.state.State.{State}
 use Rattle.plate.specs.declared.state.Answer.{Answer}
+use Rattle.plate.specs.declared.total.Totals.{Totals}
 use Rattle.plate.specs.Refusal.{outcomeNumber}
 use Rattle.plate.specs.Layout.{sizeFrom}
 use Rattle.plate.specs.Lent.{stateOf, Lent, Views, Canvas}
 use Rattle.plate.specs.Calls.{Left, Shown}
 use Rattle.plate.specs.Kept.{Refreshed, ShownKept}
+use Rattle.plate.specs.Total.{Totalled}
 pub use Rattle.lens_c.specs.declared.LensState.{LensState}
 pub use Rattle.lens_c.specs.declared.LensLens.{LensLens}
 pub use Rattle.lens_c.specs.declared.LensAnswer.{LensAnswer}
+pub use Rattle.lens_c.specs.declared.LensTotals.{LensTotals}
 
 abbrev pub stateIn : LensState → State
 stateIn s = stateOf (sizeFrom (s .width) (s .height) (s .reach)) (s .count)
@@ -68,3 +71,17 @@ showsKeptOut a v sums = record { call = showsOut a v; sums = sums }
 
 abbrev pub shownKeptOut : ShownKept → ShownKeptOut
 shownKeptOut s = record { call = shownOut (s .call); sums = s .sums }
+
+-- and of a total
+pub record TotalledOut : Type 0 where
+  pub totals : LensTotals
+  pub scratch : List ℕ
+
+abbrev pub totalsOut : Totals → LensTotals
+totalsOut t = record { answer = answerOut (t .answer); matte = t .matte; light = t .light }
+
+abbrev pub totalsAndScratch : LensTotals → List ℕ → TotalledOut
+totalsAndScratch t scratch = record { totals = t; scratch = scratch }
+
+abbrev pub totalledOut : Totalled → TotalledOut
+totalledOut t = totalsAndScratch (totalsOut (t .totals)) (t .scratch)

@@ -4,11 +4,13 @@ ghost use Rattle.plate.specs.Layout.{sizeFrom};
 ghost use Rattle.plate.specs.Lent.{ask, inputs, lentAtEntry, lentAtExit, viewsAtEntry, viewsAtExit, canvasAtEntry, canvasAtExit};
 ghost use Rattle.plate.specs.Calls.{openCall, putCall, undoCall, fillCall, showCall};
 ghost use Rattle.plate.specs.Kept.{putKeptCall, undoKeptCall, showKeptCall};
-ghost use Rattle.lens_c.specs.Interface.{stateIn, lensIn, answerOut, leftOut, shownOut, leavesOut, showsOut, refreshedOut, leavesKeptOut, shownKeptOut, showsKeptOut};
+ghost use Rattle.plate.specs.Total.{totalCall};
+ghost use Rattle.lens_c.specs.Interface.{stateIn, lensIn, answerOut, leftOut, shownOut, leavesOut, showsOut, refreshedOut, leavesKeptOut, shownKeptOut, showsKeptOut, totalsOut, totalsAndScratch, totalledOut};
 use kernels::Lens;
 use plate::Answer;
 use plate::Size;
 use plate::State;
+use plate::Totals;
 
 #[repr(C)]
 pub struct LensState {
@@ -31,6 +33,13 @@ pub struct LensAnswer {
     pub number: u32,
     pub marks: u32,
     pub state: LensState,
+}
+
+#[repr(C)]
+pub struct LensTotals {
+    pub answer: LensAnswer,
+    pub matte: u64,
+    pub light: u64,
 }
 
 fn state_in(s: LensState) -> State
@@ -60,6 +69,16 @@ fn answer_out(a: Answer) -> LensAnswer
             reach: a.state.size.reach,
             count: a.state.count,
         },
+    }
+}
+
+fn totals_out(t: Totals) -> LensTotals
+    ensures { λ r. ⌜ r ≡ totalsOut t ⌝ }
+{
+    LensTotals {
+        answer: answer_out(t.answer),
+        matte: t.matte,
+        light: t.light,
     }
 }
 
@@ -226,4 +245,11 @@ pub extern "C" fn lens_undo_kept(
     ensures { λ r. ⌜ leavesKeptOut r (lentAtExit planes pixels log) (canvasAtExit sums values mattes) ≡ refreshedOut (undoKeptCall (stateIn state) (lentAtEntry planes pixels log) (canvasAtEntry sums values mattes)) ⌝ }
 {
     answer_out(plate::kept::undo_kept(state_in(state), planes, pixels, log, sums, values, mattes))
+}
+
+#[no_mangle]
+pub extern "C" fn lens_total(state: LensState, planes: &[u64], scratch: &mut [u64]) -> LensTotals
+    ensures { λ r. ⌜ totalsAndScratch r (now (scratch .exit)) ≡ totalledOut (totalCall (stateIn state) (now (planes .entry)) (now (scratch .entry))) ⌝ }
+{
+    totals_out(plate::total::total(state_in(state), planes, scratch))
 }

@@ -1,5 +1,6 @@
 -- Demand 1: every call answers by its rows of the table. Demand 3 and demand 2: the plate mirrors the notebook through every list of calls.
 -- Refresh under the brush: mended sums and pictures are those of the plate, call after call, and so plain spreading.
+-- Light is neither made nor lost: what a plate holds in all is what the notebook's pixels had.
 pub mod Answers
 pub mod PlainSums
 pub mod Logs
@@ -8,6 +9,8 @@ pub mod Fills
 pub mod Demand
 pub mod Exchanges
 pub mod Paintings
+pub mod Squares
 pub mod FlatLayers
+pub mod Balance
 pub mod Reports
 pub mod Worked

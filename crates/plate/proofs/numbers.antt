@@ -2,3 +2,4 @@
 pub mod Wraps
 pub mod Extents
 pub mod Lists
+pub mod Parts

@@ -10,3 +10,4 @@ pub mod RisingStart
 pub mod BothPictures
 pub mod Image
 pub mod Keeping
+pub mod Totals

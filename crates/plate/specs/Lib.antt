@@ -9,10 +9,12 @@ pub mod Marks
 pub mod Calls
 pub mod Plain
 pub mod Kept
+pub mod Total
 pub mod Table
 pub mod Notebook
 pub mod Lists
 pub mod Counts
 pub mod Flat
 pub mod Painting
+pub mod Balance
 pub mod code

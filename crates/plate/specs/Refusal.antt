@@ -185,6 +185,11 @@ fillFirst s f n next =
 unfoldable pub fillCheck : State → LensOf → ℕ → Inputs → Sized → Outcome
 fillCheck s o k f n = fillFirst s f n (layerCheck o k f)
 
+-- total: 1 2
+unfoldable pub totalCheck : Size → ℕ → ℕ → Outcome
+totalCheck z planes scratch =
+    sizesCheck z (lengthCheck planes (planesInAll * padded z) (lengthCheck scratch (scratchPlanes * padded z) Accepted))
+
 -- show: 1 2
 unfoldable pub showCheck : State → ℕ → ℕ → ℕ → ℕ → Outcome
 showCheck s planes scratch values mattes =

@@ -20,6 +20,7 @@ use Rattle.plate.specs.Refusal.{Refusal, Sizes, Lengths, LogCount, Place
 use Rattle.plate.specs.Change.{askedPlace}
 use Rattle.plate.specs.Calls.{Left, refused, Shown, shows, answerOf, openCall, putCall, undoCall, fillCall, showCall}
 use Rattle.plate.specs.Kept.{Refreshed, leavesKept, putKeptCall, undoKeptCall, ShownKept, showsKept, showKeptCall}
+use Rattle.plate.specs.Total.{Totalled, totalled, noTotals, totalCall}
 
 -- an answer by rows: the refusal of the first that applies, and accepted where none does
 abbrev pub AnswersBy : List (Row Refusal) → Outcome → Type 0
@@ -60,6 +61,10 @@ ViewsWrong z planes v =
     ⊎ (length (v .scratch) ≢ scratchPlanes * padded z)
     ⊎ (length (v .values) ≢ places z)
     ⊎ (length (v .mattes) ≢ places z)
+
+-- what a total is lent: planes and scratch
+unfoldable pub TotalWrong : Size → List ℕ → List ℕ → Type 0
+TotalWrong z planes scratch = (length planes ≢ planesInAll * padded z) ⊎ (length scratch ≢ scratchPlanes * padded z)
 
 -- "a buffer of 2 × W × H sums"
 abbrev pub SumsWrong : Size → List ℕ → Type 0
@@ -201,6 +206,9 @@ abbrev pub showKeptRows : State → List ℕ → Views → List ℕ → List (Ro
 showKeptRows s planes v sums =
     row Sizes (SizesOutside (s .size)) ∷ row Lengths (ViewsWrong (s .size) planes v ⊎ SumsWrong (s .size) sums) ∷ []
 
+abbrev pub totalRows : State → List ℕ → List ℕ → List (Row Refusal)
+totalRows s planes scratch = row Sizes (SizesOutside (s .size)) ∷ row Lengths (TotalWrong (s .size) planes scratch) ∷ []
+
 -- the paper's numbers of them: each list ascends, so that the first row that applies is "the lowest number that applies"
 abbrev pub numbersOf : List (Row Refusal) → List ℕ
 numbersOf rows = map (λ (r : Row Refusal). refusalNumber (r .refusal)) rows
@@ -212,6 +220,7 @@ pub record Orders : Type 0 where
   pub of-fill : (s : State) (o : LensOf) (shape : ℕ) (f : Inputs) (l : Lent)
       → numbersOf (fillRows s o shape f l) ≡ 1 ∷ 2 ∷ 3 ∷ 5 ∷ 6 ∷ 11 ∷ 12 ∷ 17 ∷ []
   pub of-show : (s : State) (planes : List ℕ) (v : Views) → numbersOf (showRows s planes v) ≡ 1 ∷ 2 ∷ []
+  pub of-total : (s : State) (planes scratch : List ℕ) → numbersOf (totalRows s planes scratch) ≡ 1 ∷ 2 ∷ []
   -- the second forms
   pub of-put-kept : (s : State) (a : Ask) (l : Lent) (k : Canvas)
       → numbersOf (putKeptRows s a l k) ≡ 1 ∷ 2 ∷ 3 ∷ 4 ∷ 5 ∷ 6 ∷ 7 ∷ 8 ∷ 10 ∷ []
@@ -241,6 +250,11 @@ abbrev pub ShowKeptGoesBy : List (Row Refusal) → State → Views → List ℕ 
 ShowKeptGoesBy rows s v sums call =
     CallBy rows (λ (c : ShownKept). c .call .answer .outcome) (λ f. showsKept (answerOf (Refused f) 0 s) v sums) call
 
+-- a total, whose sums are then 0
+abbrev pub TotalGoesBy : List (Row Refusal) → State → List ℕ → Totalled → Type 0
+TotalGoesBy rows s scratch call =
+    CallBy rows (λ (c : Totalled). c .totals .answer .outcome) (λ f. totalled (noTotals (answerOf (Refused f) 0 s)) scratch) call
+
 -- "Any call of a public entry, with any sizes, buffers, stored words .., gets the finished work or exactly the refusal the
 -- paper's table fixes"; the state is "all zero from open"
 pub record Demand1 : Type 0 where
@@ -254,6 +268,8 @@ pub record Demand1 : Type 0 where
   pub undo-kept-by : (s : State) (l : Lent) (k : Canvas) → KeptGoesBy (undoKeptRows s l k) s l k (undoKeptCall s l k)
   pub show-kept-by : (s : State) (planes : List ℕ) (v : Views) (sums : List ℕ)
       → ShowKeptGoesBy (showKeptRows s planes v sums) s v sums (showKeptCall s planes v sums)
+  pub total-by : (s : State) (planes scratch : List ℕ)
+      → TotalGoesBy (totalRows s planes scratch) s scratch (totalCall s planes scratch)
 
 -- PLATES THERE ARE
 -- every open with lawful sizes and right lengths is accepted, so that demands 2 and 3 speak of every plate

@@ -6,4 +6,5 @@ pub mod Filling
 pub mod Passes
 pub mod Showing
 pub mod Keeping
+pub mod Totalling
 pub mod Mending

@@ -15,10 +15,7 @@ use crate::state::State;
 use kernels::ShapeRead;
 use kernels::fixed::VALUE_TOP;
 ghost use mathlib.Core.Path.{_≡_};
-ghost use Prim.Native.Nat.{_*_};
-ghost use Rattle.plate.specs.Fixed.{planesInAll};
-ghost use Rattle.plate.specs.Layout.{padded};
-ghost use Rattle.plate.specs.Refusal.{Accepted, sizesCheck, lengthCheck, lentCheck, plateCheck, askCheck, inputsCheck, viewsCheck, openCheck, putCheck, undoCheck, showCheck, showKeptCheck, keptCheck};
+ghost use Rattle.plate.specs.Refusal.{Accepted, sizesCheck, lentCheck, plateCheck, askCheck, inputsCheck, openCheck, putCheck, undoCheck, totalCheck, showCheck, showKeptCheck, keptCheck};
 ghost use Rattle.plate.specs.code.Bounds.{LawfulSize};
 ghost use Rattle.plate.specs.code.Filling.{fillLengths};
 
@@ -206,24 +203,20 @@ pub(crate) fn check_fill(
     Outcome::Accepted
 }
 
-// 2: the lengths of what a show is lent.
-fn check_views(size: Size, planes: usize, scratch: usize, values: usize, mattes: usize) -> Outcome
-    requires { ⌜ LawfulSize size ⌝ }
-    ensures { λ r. ⌜ r ≡ lengthCheck planes (planesInAll * padded size) (viewsCheck size scratch values mattes) ⌝ }
+// 1 and 2, all that a total checks, and the first that a show checks.
+pub(crate) fn check_total(size: Size, planes: usize, scratch: usize) -> Outcome
+    ensures { λ r. ⌜ r ≡ totalCheck size planes scratch ⌝ }
 {
+    let sizes = check_sizes(size);
+    let Outcome::Accepted = sizes else {
+        return sizes;
+    };
     let frame = frame_of(size);
     let cells = frame.padded;
-    let places = frame.places;
     if planes != PLANES * cells {
         return Outcome::Refused(Refusal::Lengths);
     }
     if scratch != SCRATCH_PLANES * cells {
-        return Outcome::Refused(Refusal::Lengths);
-    }
-    if values != places {
-        return Outcome::Refused(Refusal::Lengths);
-    }
-    if mattes != places {
         return Outcome::Refused(Refusal::Lengths);
     }
     Outcome::Accepted
@@ -240,11 +233,18 @@ pub(crate) fn check_show(
     ensures { λ r. ⌜ r ≡ showCheck state planes scratch values mattes ⌝ }
 {
     let size = state.size;
-    let sizes = check_sizes(size);
-    let Outcome::Accepted = sizes else {
-        return sizes;
+    let summed = check_total(size, planes, scratch);
+    let Outcome::Accepted = summed else {
+        return summed;
     };
-    check_views(size, planes, scratch, values, mattes)
+    let places = size.width * size.height;
+    if values != places {
+        return Outcome::Refused(Refusal::Lengths);
+    }
+    if mattes != places {
+        return Outcome::Refused(Refusal::Lengths);
+    }
+    Outcome::Accepted
 }
 
 // 1 and 2, all that a show that keeps its sums checks.

@@ -17,6 +17,7 @@ mod scan;
 pub mod show;
 pub mod size;
 pub mod state;
+pub mod total;
 pub mod undo;
 pub mod word;
 
@@ -26,3 +27,4 @@ pub use state::Answer;
 pub use state::Outcome;
 pub use state::Refusal;
 pub use state::State;
+pub use total::Totals;

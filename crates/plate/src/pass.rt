@@ -4,7 +4,8 @@
 ghost use mathlib.Core.Path.{_≡_};
 ghost use Prim.Native.Nat.{_+_, _%_, _^_, _<_};
 ghost use lib.ListN.{length};
-ghost use Rattle.plate.specs.code.Passes.{sumsEnd, marksEnd, startsAt, matteAfter, Added, LinesIn, MarksOn, MarksOff, BoxesIn, BoxesMet, InOrder, RowSummed, RowLaid, LayReady, RowReady, Summed};
+ghost use Rattle.plate.specs.code.Passes.{sumsEnd, marksEnd, startsAt, matteAfter, Added, LinesIn, MarksOn, MarksOff, BoxesIn, BoxesMet, InOrder, RowSummed, RowLaid, PictureIn, RowReady, Summed};
+use crate::clear::clear;
 use kernels::fixed::LEVEL;
 use kernels::fixed::PLANES_EACH;
 use kernels::fixed::SECOND_BOX;
@@ -53,7 +54,7 @@ pub(crate) struct Across {
 }
 
 // A row's lines lie where those of the row before it lie, a column further: a line keeps its cell, and nothing moves.
-fn starts_at(picture: Picture, row: usize) -> Starts
+pub(crate) fn starts_at(picture: Picture, row: usize) -> Starts
     requires { ⌜ (row < picture .high) × (sumsEnd picture < 2 ^ 64) × (marksEnd picture < 2 ^ 64) ⌝ }
     ensures { λ r. ⌜ r ≡ startsAt picture row ⌝ }
 {
@@ -245,12 +246,17 @@ fn lay_row(scratch: &mut [u64], planes: &[u64], starts: Starts, columns: usize)
     }
 }
 
-// Rising lines get all their marks before the first row: the sum of a line from its foot to a row is then what is left of it
-// when the rows above that row have taken their marks off. So the sums down need no second pass over the rows.
-pub(crate) fn lay_rising(scratch: &mut [u64], planes: &[u64], picture: Picture)
-    requires { ⌜ LayReady picture (now scratch) (now planes) ⌝ }
+// A picture's sums before the first row, whatever the scratch held. Rising lines have all their marks then: the sum of a line
+// from its foot to a row is what is left of it when the rows above that row have taken their marks off. So the sums down need no
+// second pass over the rows.
+pub(crate) fn start_sums(scratch: &mut [u64], planes: &[u64], picture: Picture)
+    requires { ⌜ PictureIn picture (now scratch) (now planes) ⌝ }
     ensures { λ _. ⌜ Summed picture (now (planes .entry)) (now (scratch .entry)) (now (scratch .exit)) 0 ⌝ }
 {
+    let starts = starts_at(picture, 0);
+    let first = picture.sums;
+    let end = starts.down + picture.columns;
+    clear(&mut scratch[first..end]);
     let mut row = picture.high;
     while 0 < row {
         row -= 1;

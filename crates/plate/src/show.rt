@@ -9,8 +9,8 @@ ghost use Rattle.plate.specs.code.Showing.{lightPicture, BothIn, AboveRe
 use crate::check::check_show;
 use crate::clear::clear;
 use crate::pass::Picture;
-use crate::pass::lay_rising;
 use crate::pass::matte_after;
+use crate::pass::start_sums;
 use crate::pass::sum_next;
 use crate::size::Size;
 use crate::size::frame_of;
@@ -49,11 +49,8 @@ fn lay_both(scratch: &mut [u64], planes: &[u64], light: Picture)
     ensures { λ _. ⌜ BothSummed light (now (planes .entry)) (now (scratch .entry)) (now (scratch .exit)) 0 ⌝ }
 {
     let matte = matte_after(light);
-    let light_end = matte.sums;
-    let end = light_end + (light_end - light.sums);
-    clear(&mut scratch[..end]);
-    lay_rising(scratch, planes, light);
-    lay_rising(scratch, planes, matte);
+    start_sums(scratch, planes, light);
+    start_sums(scratch, planes, matte);
 }
 
 // Both pictures' sums, one row further.

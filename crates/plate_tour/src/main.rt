@@ -1,5 +1,6 @@
-// A plate of 3 × 1 pixels: opened, two pixels put, one taken back, then filled. Each show prints value and matte of each cell.
-// Last a pixel is put and taken back with the pictures kept under the brush, and these are printed.
+// A plate of 3 × 1 pixels: opened, two pixels put, one taken back, then filled. Each show prints value and matte of each cell, and
+// after the two puts light and matte of the whole plate are printed. Last a pixel is put and taken back with the pictures kept
+// under the brush, and these are printed.
 use libc::STDOUT_FILENO;
 use plate::Lens;
 use plate::State;
@@ -23,6 +24,16 @@ fn print_show(state: State, planes: &[u64]) {
     let mut mattes = [0u8; 3];
     plate::show::show(state, planes, &mut scratch, &mut values, &mut mattes);
     print_pictures(&values, &mattes);
+}
+
+fn print_total(state: State, planes: &[u64]) {
+    let mut scratch = [0u64; 297];
+    let totals = plate::total::total(state, planes, &mut scratch);
+    io::write_all(STDOUT_FILENO, b"total ");
+    io::print_decimal(STDOUT_FILENO, totals.light);
+    io::write_all(STDOUT_FILENO, b"/");
+    io::print_decimal(STDOUT_FILENO, totals.matte);
+    io::write_all(STDOUT_FILENO, b"\n");
 }
 
 // An opaque box.
@@ -133,6 +144,7 @@ fn main() {
     let first = put(opened.state, 1, 100, 1, &mut planes, &mut pixels, &mut log);
     let second = put(first, 0, 40, 0, &mut planes, &mut pixels, &mut log);
     print_show(second, &planes);
+    print_total(second, &planes);
     let undone = plate::undo::undo(second, &mut planes, &mut pixels, &mut log);
     print_show(undone.state, &planes);
     let filled = fill(undone.state, &mut planes, &mut pixels, &mut log);

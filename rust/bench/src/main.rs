@@ -40,11 +40,12 @@ fn main() {
     radius_table(&engines);
     size_table(&engines);
     shape_table(&engines);
+    total_table(&engines);
     kept_table(&engines);
     record_line();
 }
 
-/// Fill, show and put + undo on the main size, with radii by a ramp of depths.
+/// Fill, show, total and put + undo on the main size, with radii by a ramp of depths.
 fn main_table(engines: &[Engine]) {
     let (width, height) = MAIN;
     let mut bench = Bench::new(width, height, REACH);
@@ -54,9 +55,8 @@ fn main_table(engines: &[Engine]) {
     println!("## {width} × {height}, radii 0 to 64 by a ramp of depths\n");
     let mut table = Table::new(&["call", "engine", "to handmade", "to one read", "time"]);
     for (engine, time) in engines.iter().zip(&times.engines) {
-        let whole_plate =
-            [("fill", time.fill, handmade.fill), ("show", time.show, handmade.show)];
-        for (call, time, by_hand) in whole_plate {
+        let calls = time.of_whole_plate().into_iter().zip(handmade.of_whole_plate());
+        for ((call, time), (_, by_hand)) in calls {
             table.row([
                 call.into(),
                 engine.name.into(),
@@ -203,6 +203,37 @@ fn shape_table(engines: &[Engine]) {
                 milliseconds(time.fill),
                 milliseconds(time.show),
                 nanoseconds(time.put_undo),
+            ]);
+        }
+    }
+    table.print();
+}
+
+/// Total beside show, all pixels of radius 64.
+fn total_table(engines: &[Engine]) {
+    println!("## Total beside show, radius 64 for all pixels\n");
+    let mut table = Table::new(&[
+        "plate",
+        "engine",
+        "total to show",
+        "total to handmade",
+        "total to one read",
+        "show",
+        "total",
+    ]);
+    for (width, height) in [(256, 128), MAIN] {
+        let mut bench = Bench::new(width, height, REACH);
+        bench.lay_radius(64);
+        let times = bench.run(engines, SHAPE, 15);
+        for (engine, time) in engines.iter().zip(&times.engines) {
+            table.row([
+                format!("{width} × {height}"),
+                engine.name.into(),
+                ratio(time.total, time.show),
+                ratio(time.total, times.handmade().total),
+                ratio(time.total, times.read),
+                milliseconds(time.show),
+                milliseconds(time.total),
             ]);
         }
     }

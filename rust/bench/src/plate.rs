@@ -11,7 +11,7 @@ use reference::kernel::{Kernel, Shape};
 use reference::marks::Layout;
 use reference::pixel::Pixel;
 use reference::spread::{Grid, pictures};
-use reference::{Answer, Fill, Put, State};
+use reference::{Answer, Fill, Put, State, Totals};
 
 use crate::clock::time;
 
@@ -43,7 +43,15 @@ pub fn engines() -> Vec<Engine> {
 pub struct Times {
     pub fill: Duration,
     pub show: Duration,
+    pub total: Duration,
     pub put_undo: Duration,
+}
+
+impl Times {
+    /// Those of the calls that go over all of a plate.
+    pub fn of_whole_plate(self) -> [(&'static str, Duration); 3] {
+        [("fill", self.fill), ("show", self.show), ("total", self.total)]
+    }
 }
 
 /// The best times of one engine's first and second forms.
@@ -159,7 +167,7 @@ impl Bench {
     /// Times every engine and the pure read in turn, several rounds long.
     pub fn run(&mut self, engines: &[Engine], shape: Shape, rounds: usize) -> Run {
         let never = Duration::MAX;
-        let unset = Times { fill: never, show: never, put_undo: never };
+        let unset = Times { fill: never, show: never, total: never, put_undo: never };
         let mut run = Run { read: never, engines: vec![unset; engines.len()] };
         for _ in 0..rounds {
             for (engine, best) in engines.iter().zip(&mut run.engines) {
@@ -193,6 +201,7 @@ impl Bench {
     fn round<E: engine::Engine>(&mut self, shape: Shape, best: &mut Times) {
         best.fill = best.fill.min(time(|| self.fill::<E>(shape)));
         best.show = best.show.min(time(|| self.show::<E>()));
+        best.total = best.total.min(time(|| self.total::<E>()));
         let pairs = time(|| self.put_and_undo::<E>(shape));
         best.put_undo = best.put_undo.min(pairs / PAIRS);
     }
@@ -225,6 +234,13 @@ impl Bench {
     fn show<E: engine::Engine>(&mut self) {
         let Bench { state, planes, scratch, shown_values, shown_mattes, .. } = self;
         accepted(E::show(*state, planes, scratch, shown_values, shown_mattes));
+    }
+
+    fn total<E: engine::Engine>(&mut self) {
+        let Bench { state, planes, scratch, .. } = self;
+        let Totals { answer, matte, light } = E::total(*state, planes, scratch);
+        accepted(answer);
+        black_box((matte, light));
     }
 
     fn show_kept<E: engine::Engine>(&mut self) {

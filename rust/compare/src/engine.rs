@@ -4,7 +4,7 @@
 #[cfg(feature = "proved")]
 use lens::raw;
 use reference::kept::Kept;
-use reference::{Answer, Fill, Lens, Put, State, stored};
+use reference::{Answer, Fill, Lens, Put, State, Totals, stored};
 
 pub trait Engine {
     const NAME: &'static str;
@@ -43,6 +43,8 @@ pub trait Engine {
         values: &mut [u16],
         mattes: &mut [u8],
     ) -> Answer;
+
+    fn total(state: State, planes: &[u64], scratch: &mut [u64]) -> Totals;
 
     fn show_kept(state: State, planes: &[u64], scratch: &mut [u64], kept: Kept) -> Answer;
 
@@ -171,6 +173,12 @@ macro_rules! mirror {
                 $engine::answer(answer)
             }
 
+            fn total(state: State, planes: &[u64], scratch: &mut [u64]) -> Totals {
+                let totals = $module::total($engine::state(state), planes, scratch);
+                let $module::Totals { answer, matte, light } = totals;
+                Totals { answer: $engine::answer(answer), matte, light }
+            }
+
             fn show_kept(
                 state: State,
                 planes: &[u64],
@@ -281,6 +289,10 @@ impl Engine for Stored {
         mattes: &mut [u8],
     ) -> Answer {
         stored::show(state, planes, scratch, values, mattes)
+    }
+
+    fn total(state: State, planes: &[u64], scratch: &mut [u64]) -> Totals {
+        stored::total(state, planes, scratch)
     }
 
     fn show_kept(state: State, planes: &[u64], scratch: &mut [u64], kept: Kept) -> Answer {

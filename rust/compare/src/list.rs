@@ -6,11 +6,11 @@ use reference::kept::Kept;
 use reference::marks::marks_of_grid;
 use reference::notebook::Notebook;
 use reference::pixel::entry;
-use reference::spread::Pictures;
-use reference::{Answer, State};
+use reference::spread::{Pictures, Sum};
+use reference::{Answer, State, Totals};
 
-use crate::engine::Engine;
-use crate::guard::{PlateBuffers, ShowBuffers};
+use crate::engine::{Engine, Stored};
+use crate::guard::{Guarded, PlateBuffers, ShowBuffers};
 use crate::keeping::Keeping;
 use crate::numbers::Numbers;
 use crate::random::Random;
@@ -24,6 +24,7 @@ pub struct Tally {
     undos: usize,
     fills: usize,
     shows: usize,
+    totals: usize,
     /// Those in their second form, and changes whose mended pictures were a show's.
     kept: usize,
     followed: usize,
@@ -38,6 +39,7 @@ impl Tally {
             Step::Undo | Step::UndoKept(_) => self.undos += 1,
             Step::Fill(_) => self.fills += 1,
             Step::Show { .. } | Step::ShowKept { .. } => self.shows += 1,
+            Step::Total { .. } => self.totals += 1,
         }
         self.kept += usize::from(step.is_kept());
         self.numbers.count(number);
@@ -46,8 +48,10 @@ impl Tally {
 
 impl fmt::Display for Tally {
     fn fmt(&self, f: &mut fmt::Formatter<'_>) -> fmt::Result {
-        let Tally { lists, puts, undos, fills, shows, kept, followed, numbers, cells } = self;
-        write!(f, "{lists} lists: {puts} puts, {undos} undos, {fills} fills, {shows} shows; ")?;
+        let Tally { lists, puts, undos, fills, shows, totals, .. } = self;
+        let Tally { kept, followed, numbers, cells, .. } = self;
+        write!(f, "{lists} lists: {puts} puts, {undos} undos, {fills} fills, {shows} shows, ")?;
+        write!(f, "{totals} totals; ")?;
         write!(
             f,
             "{kept} in their second form, {followed} changes followed in kept pictures; "
@@ -57,8 +61,9 @@ impl fmt::Display for Tally {
 }
 
 /// Opens a plate, makes the calls, and compares: after each call number, marks, state and
-/// guards, and that a refused one changed nothing; for each show both pictures; for second
-/// forms all that they keep; after the list every cell of planes, pixels and log.
+/// guards, and that a refused one changed nothing; for each show both pictures; for each total
+/// both sums; for second forms all that they keep; after the list every cell of planes, pixels
+/// and log.
 pub fn run<E: Engine>(
     sizes: State,
     room: usize,
@@ -132,6 +137,10 @@ impl List {
                 let lent = ShowBuffers::garbage(scratch, values, mattes, random);
                 show::<E>(state, planes, lent, told.pictures)
             }
+            &Step::Total { scratch } => {
+                let lent = Guarded::garbage(scratch, random);
+                total::<E>(state, planes, lent, notebook.total(scratch).1)
+            }
             &Step::PutKept(put, kept) => {
                 let put_kept = |kept: Kept| E::put_kept(state, put, planes, pixels, log, kept);
                 keeping.mend(kept, told.change, &notebook.grid, random, put_kept)
@@ -180,5 +189,23 @@ fn show<E: Engine>(
         None => assert!(lent.same_cells(&before), "{}: a refused show wrote", E::NAME),
     }
     assert!(lent.guards_hold(), "{}: show wrote beyond its buffers", E::NAME);
+    answer
+}
+
+/// A total, compared with the notebook's sums, 0 if it is refused; and with the planes' own,
+/// cell by cell.
+fn total<E: Engine>(
+    state: State,
+    planes: &[u64],
+    mut scratch: Guarded<u64>,
+    sum: Sum,
+) -> Answer {
+    let mut model = scratch.clone();
+    let totals = E::total(state, planes, &mut scratch);
+    let Totals { answer, matte, light } = totals;
+    assert_eq!(Sum { light, matte }, sum, "{}: total of {state:?}", E::NAME);
+    assert_eq!(totals, Stored::total(state, planes, &mut model), "{}: {state:?}", E::NAME);
+    assert!(*scratch == *model, "{}: scratch of a total, {answer:?}", E::NAME);
+    assert!(scratch.guards_hold(), "{}: total wrote beyond its scratch", E::NAME);
     answer
 }

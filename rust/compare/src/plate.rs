@@ -2,7 +2,7 @@
 
 use reference::kept::Kept;
 use reference::marks::{Layout, PLANES, plane_of_slope};
-use reference::{Answer, Fill, Lens, Put, State};
+use reference::{Answer, Fill, Lens, Put, State, Totals};
 
 use crate::engine::Engine;
 
@@ -106,6 +106,15 @@ impl Plate {
         let answer = E::show(self.state, &self.planes, &mut scratch, &mut values, &mut mattes);
         assert_eq!(answer.number, 0);
         (values, mattes)
+    }
+
+    /// What it adds up to, after making sure that the scratch is left all zero.
+    pub fn total<E: Engine>(&self) -> Totals {
+        let mut scratch = vec![u64::MAX; self.planes.len() / 14 * 3];
+        let totals = E::total(self.state, &self.planes, &mut scratch);
+        assert_eq!(totals.answer, Answer { number: 0, marks: 0, state: self.state });
+        assert!(scratch.iter().all(|&cell| cell == 0), "{}: scratch of a total", E::NAME);
+        totals
     }
 }
 

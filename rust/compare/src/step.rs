@@ -21,6 +21,9 @@ pub enum Step {
         values: usize,
         mattes: usize,
     },
+    Total {
+        scratch: usize,
+    },
     /// The second forms, with the lengths of what they are lent to keep.
     PutKept(Put, KeptLengths),
     UndoKept(KeptLengths),
@@ -68,7 +71,12 @@ impl Step {
         Step::Show { scratch, values: width * height, mattes: width * height }
     }
 
-    /// Its second form, lent the right lengths; a fill has none.
+    /// A total that is lent the right length.
+    pub fn total(width: usize, height: usize, reach: usize) -> Step {
+        Step::Total { scratch: 3 * Layout::of(width, height, reach).cells() }
+    }
+
+    /// Its second form, lent the right lengths; a fill and a total have none.
     pub fn kept(self, cells: usize) -> Step {
         let kept = KeptLengths::of(cells);
         match self {
@@ -96,6 +104,7 @@ impl Step {
             Step::Undo => (notebook.undo(), None),
             Step::Fill(inputs) => (notebook.fill(&inputs.as_fill()), None),
             &Step::Show { scratch, values, mattes } => notebook.show(scratch, values, mattes),
+            &Step::Total { scratch } => (notebook.total(scratch).0, None),
             &Step::PutKept(put, kept) => (notebook.put_kept(put, kept), None),
             &Step::UndoKept(kept) => (notebook.undo_kept(kept), None),
             &Step::ShowKept { scratch, kept } => notebook.show_kept(scratch, kept),
@@ -116,7 +125,9 @@ impl Step {
                 inside.then(|| put.y * grid.width + put.x)
             }
             Step::Undo | Step::UndoKept(_) => pile.last().map(|&(place, _)| place),
-            Step::Fill(_) | Step::Show { .. } | Step::ShowKept { .. } => None,
+            Step::Fill(_) | Step::Show { .. } | Step::ShowKept { .. } | Step::Total { .. } => {
+                None
+            }
         }
     }
 }
@@ -144,15 +155,19 @@ pub struct Maker<'a> {
 }
 
 impl Maker<'_> {
-    /// A call in its first form, or as often in its second.
+    /// A call in its first form, or, where it has one, as often in its second.
     pub fn step(&mut self) -> Step {
         let kept = self.random.once_in(2).then(|| self.kept_lengths());
-        match (self.random.below(10), kept) {
+        match (self.random.below(11), kept) {
             (0..5, None) => Step::Put(self.put()),
             (0..5, Some(kept)) => Step::PutKept(self.put(), kept),
             (5..7, None) => Step::Undo,
             (5..7, Some(kept)) => Step::UndoKept(kept),
             (7, _) => Step::Fill(self.inputs()),
+            (8, _) => {
+                let [scratch, ..] = self.show_lengths();
+                Step::Total { scratch }
+            }
             (_, None) => {
                 let [scratch, values, mattes] = self.show_lengths();
                 Step::Show { scratch, values, mattes }

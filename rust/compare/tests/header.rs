@@ -41,7 +41,10 @@ fn run_with_engine(object: &Path) {
     let output = Command::new(&program).output().expect("the program starts");
     let text = "put 0 16 count 1\nput 0 16 count 2\nput 8 0 count 2\n\
                 show 0: 46/255 100/28 100/28\n\
+                total 0: 4278190080 299473305600\n\
                 show 0: 100/28 100/28 100/28\n\
+                total 0: 2139095040 213909504000\n\
+                total 2: 0 0\n\
                 fill 17\nfill 0\n\
                 show 0: 7/255 8/255 9/255\n\
                 show kept 0: 0/0 0/0 0/0\n\

@@ -14,14 +14,14 @@ use compare::step::{Maker, Step};
 use reference::State;
 use reference::marks::Layout;
 
-const CASES: usize = 64_000;
+const CASES: usize = 72_000;
 
 /// The refusals of a put and of an undo, in either form.
 const PUT: &[u32] = &[1, 2, 3, 4, 5, 6, 7, 8, 10];
 const UNDO: &[u32] = &[1, 2, 3, 9, 10];
 
 /// The calls, and the refusals of each.
-const CALLS: [(&str, &[u32]); 8] = [
+const CALLS: [(&str, &[u32]); 9] = [
     ("open", &[1, 2]),
     ("put", PUT),
     ("undo", UNDO),
@@ -30,6 +30,7 @@ const CALLS: [(&str, &[u32]); 8] = [
     ("put with kept pictures", PUT),
     ("undo with kept pictures", UNDO),
     ("show with kept pictures", &[1, 2]),
+    ("total", &[1, 2]),
 ];
 
 /// Every refusal of each call comes up.
@@ -60,7 +61,7 @@ fn hostile_call<E: Engine>(random: &mut Random, tally: &mut [Numbers; CALLS.len(
     assert_eq!(answer, expected, "{}: {step:?} on {state:?}", E::NAME);
     assert!(lent.guards_hold(), "{}: {step:?} wrote beyond its buffers", E::NAME);
     assert!(lent.same_cells(&model), "{}: {step:?} on {state:?}, {answer:?}", E::NAME);
-    tally[call].count(answer.number);
+    tally[call].count(answer.answer.number);
 }
 
 /// A call of the table above by its place there; an open is no step.
@@ -75,7 +76,8 @@ fn hostile_step(call: usize, maker: &mut Maker) -> Option<Step> {
         4 => Some(Step::Show { scratch, values, mattes }),
         5 => Some(Step::PutKept(maker.put(), kept)),
         6 => Some(Step::UndoKept(kept)),
-        _ => Some(Step::ShowKept { scratch, kept }),
+        7 => Some(Step::ShowKept { scratch, kept }),
+        _ => Some(Step::Total { scratch }),
     }
 }
 

@@ -38,12 +38,13 @@ fn random_list<E: Engine>(sizes: State, random: &mut Random, tally: &mut Tally) 
     let mut maker = Maker { random, width, height, reach };
     let mut steps: Vec<Step> = (0..calls).map(|_| maker.step()).collect();
     steps.push(Step::show(width, height, reach));
+    steps.push(Step::total(width, height, reach));
     run::<E>(sizes, room, &steps, random, tally);
 }
 
 /// The longest sides, with the greatest reach.
 fn long_plates<E: Engine>() {
-    let random = &mut Random::new(11);
+    let random = &mut Random::new(15);
     let tally = &mut Tally::default();
     for (width, height) in [(4_096, 1), (1, 4_096), (300, 200)] {
         random_list::<E>(State { width, height, reach: 64, count: 0 }, random, tally);
@@ -82,6 +83,7 @@ fn greatest_plate<E: Engine>() {
         put(width, 0, 0).kept(cells),
         put(0, height - 1, 0),
         show(),
+        Step::total(width, height, sizes.reach),
         Step::Undo,
         Step::Undo.kept(cells),
     ];

@@ -80,7 +80,7 @@ impl Case {
         let step = Some(self.step(call));
         let mut lent = Lent::to(step.as_ref(), self.plate(random), random);
         let before = lent.clone();
-        let answer = lent.call::<E>(self.state, step.as_ref());
+        let answer = lent.call::<E>(self.state, step.as_ref()).answer;
         assert!(lent.guards_hold(), "{}: cells beyond a buffer changed", E::NAME);
         if answer.number != 0 {
             let refused = Answer { number: answer.number, marks: 0, state: self.state };

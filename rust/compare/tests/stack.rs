@@ -1,6 +1,6 @@
 //! What calls need of the stack does not grow with the plate: on the widest and on the highest
-//! plate a show in either form, and a put and an undo that mend, run in a thread whose whole
-//! stack is shorter than one row, or one column, of sums. All that they are lent is made
+//! plate a show in either form, a total, and a put and an undo that mend, run in a thread whose
+//! whole stack is shorter than one row, or one column, of sums. All that they are lent is made
 //! outside the thread.
 #![cfg(feature = "proved")]
 
@@ -13,8 +13,8 @@ use reference::kept::KeptLengths;
 use reference::kernel::Shape;
 use reference::marks::Layout;
 use reference::pixel::Pixel;
-use reference::spread::{Grid, pictures};
-use reference::{Answer, Put};
+use reference::spread::{Grid, Sum, pictures, total};
+use reference::{Answer, Put, Totals};
 use std::thread;
 
 const STACK: usize = 16 * 1024;
@@ -63,6 +63,21 @@ fn a_show_in_a_small_thread() {
         });
         let shown = pictures(&grid);
         assert!(values == shown.values && mattes == shown.mattes, "{width} x {height}");
+    }
+}
+
+#[test]
+fn a_total_in_a_small_thread() {
+    for (width, height) in PLATES {
+        let (Plate { state, planes, .. }, grid) = filled(width, height);
+        let mut scratch = scratch_of(&grid);
+        let mut sum = Sum::default();
+        accepted_in_a_small_thread(|| {
+            let Totals { answer, matte, light } = Proved::total(state, &planes, &mut scratch);
+            sum = Sum { light, matte };
+            answer
+        });
+        assert_eq!(sum, total(&grid), "{width} x {height}");
     }
 }
 

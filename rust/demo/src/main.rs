@@ -74,14 +74,19 @@ fn see_shapes(
     sheet.add("its depth, near is bright", scene.depth_picture());
 
     let shapes = ["box", "tent", "triple", "diamond", "hexagon", "octagon"];
+    let total = plate.total();
     let mut shown = sharp;
     for (shape, name) in Shape::ALL.into_iter().zip(shapes) {
         plate.fill(LENS, shape, scene.layer())?;
+        if plate.total() != total {
+            return Err(format!("the {name} makes or loses light").into());
+        }
         shown = plate.show();
         write_pair(folder, name, &shown)?;
         sheet.add(name, Gray::of_values(&shown.values));
     }
     sheet.add("octagon, matte", Gray::of_mattes(&shown.mattes));
+    println!("the light adds up to {} in focus and under each of the six kernels", total.light);
     Ok(shown)
 }
 

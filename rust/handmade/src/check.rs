@@ -127,9 +127,16 @@ pub(crate) fn show(
     mattes: usize,
 ) -> Checked<Layout> {
     let layout = sizes(state)?;
-    let lengths = planes == 14 * layout.cells
-        && scratch == 3 * layout.cells
-        && fits(layout, values, mattes);
-    require(lengths, 2)?;
+    require(spans(layout, planes, scratch) && fits(layout, values, mattes), 2)?;
     Ok(layout)
+}
+
+pub(crate) fn total(state: State, planes: usize, scratch: usize) -> Checked<Layout> {
+    let layout = sizes(state)?;
+    require(spans(layout, planes, scratch), 2)?;
+    Ok(layout)
+}
+
+fn spans(layout: Layout, planes: usize, scratch: usize) -> bool {
+    planes == 14 * layout.cells && scratch == 3 * layout.cells
 }

@@ -15,6 +15,13 @@ pub(crate) struct Layout {
     pub cells: usize,
 }
 
+/// Columns and rows of a padded plane, counted from its first ones.
+#[derive(Clone, Copy)]
+pub(crate) struct Extent {
+    pub columns: usize,
+    pub rows: usize,
+}
+
 impl Layout {
     /// The layout of lawful sizes.
     pub fn of(state: State) -> Layout {
@@ -31,14 +38,14 @@ impl Layout {
         }
     }
 
-    /// The column after the image's last.
-    pub fn image_end_column(self) -> usize {
-        self.margin + self.width
+    /// Up to the image's last column and row.
+    pub fn to_image_end(self) -> Extent {
+        Extent { columns: self.margin + self.width, rows: self.margin + self.height }
     }
 
-    /// The row after the image's last.
-    pub fn image_end_row(self) -> usize {
-        self.margin + self.height
+    /// All of the padded plane.
+    pub fn to_end(self) -> Extent {
+        Extent { columns: self.stride, rows: self.rows }
     }
 
     /// The cell of image pixel (x, y) in a plane.

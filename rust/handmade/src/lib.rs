@@ -3,9 +3,9 @@
 //! This is what a careful programmer would write without a prover, and it is the
 //! baseline of the benchmark. The calls take the same arguments as the C
 //! interface, on slices. Put and undo touch the cells of their marks and no others;
-//! fill lays each pixel's marks once; show reads each plane once. Nothing costs more at
-//! a greater radius, but for the forms of put and undo that mend kept pictures: they
-//! visit each cell that changes.
+//! fill lays each pixel's marks once; show and total read each plane once. Nothing costs
+//! more at a greater radius, but for the forms of put and undo that mend kept pictures:
+//! they visit each cell that changes.
 
 mod check;
 mod divide;
@@ -13,6 +13,7 @@ mod kept;
 mod kernel;
 mod layout;
 mod show;
+mod total;
 mod word;
 
 use divide::Half;
@@ -22,6 +23,7 @@ use word::Pixel;
 
 pub use kept::{put_kept, undo_kept};
 pub use show::{show, show_kept};
+pub use total::{Totals, total};
 
 #[derive(Clone, Copy, Debug, Default, PartialEq, Eq)]
 pub struct State {

@@ -9,7 +9,7 @@
 //! row tells; if it is not 0, it tells the totals too, and a second pass starts with them.
 
 use crate::divide::{self, Half};
-use crate::layout::Layout;
+use crate::layout::{Extent, Layout};
 use crate::{Answer, State, check, refused};
 
 pub fn show(
@@ -73,8 +73,9 @@ impl Image<'_> {
 
 fn draw<'a>(layout: Layout, planes: &'a [u64], mut scratch: &'a mut [u64], mut image: Image) {
     let (light, matte) = planes.split_at(planes.len() / 2);
-    let mut light = Sums::new(layout, light, &mut scratch);
-    let mut matte = Sums::new(layout, matte, &mut scratch);
+    // Every scratch has room for both pictures up to the image's end.
+    let mut light = Sums::new(layout, layout.to_image_end(), light, &mut scratch);
+    let mut matte = Sums::new(layout, layout.to_image_end(), matte, &mut scratch);
     pass(layout, &mut light, &mut matte, &mut image);
     if light.missed_totals() || matte.missed_totals() {
         light.start_with_totals();
@@ -85,7 +86,7 @@ fn draw<'a>(layout: Layout, planes: &'a [u64], mut scratch: &'a mut [u64], mut i
 
 /// Reads the planes and writes both pictures, and the sums where they are wanted.
 fn pass(layout: Layout, light: &mut Sums, matte: &mut Sums, image: &mut Image) {
-    let shown = layout.margin..layout.image_end_row();
+    let shown = layout.margin..layout.to_image_end().rows;
     for row in 0..shown.end {
         light.add_row(row);
         matte.add_row(row);
@@ -113,49 +114,55 @@ pub(crate) fn round(light: &[u64], matte: &[u64], values: &mut [u16], mattes: &m
 }
 
 /// The accumulators of one picture.
-struct Sums<'a> {
+pub(crate) struct Sums<'a> {
     layout: Layout,
+    /// As far as sums are wanted.
+    extent: Extent,
     planes: &'a [u64],
     /// Lines of slope −1; lines of slope −2 on even rows, and on odd rows.
     rising_one: &'a mut [u64],
     rising_two: [&'a mut [u64]; 2],
-    /// Lines of slope 1 and 2, likewise. They matter up to the image's last column and row.
+    /// Lines of slope 1 and 2, likewise. They matter only as far as sums are wanted.
     falling_one: &'a mut [u64],
     falling_two: [&'a mut [u64]; 2],
     /// The third and the second box summed across and down, up to the last row read.
     third: &'a mut [u64],
     second: &'a mut [u64],
     /// The finished sums of the last row read.
-    down: &'a mut [u64],
+    pub down: &'a mut [u64],
 }
 
 impl<'a> Sums<'a> {
-    /// Takes its accumulators from the front of the scratch. Every scratch has room for
-    /// those of two pictures.
-    fn new(layout: Layout, planes: &'a [u64], scratch: &mut &'a mut [u64]) -> Sums<'a> {
-        let (columns, rows) = (layout.image_end_column(), layout.image_end_row());
+    /// Takes its accumulators from the front of the scratch.
+    pub fn new(
+        layout: Layout,
+        extent: Extent,
+        planes: &'a [u64],
+        scratch: &mut &'a mut [u64],
+    ) -> Sums<'a> {
         let mut take = |length: usize| {
             let part = scratch.split_off_mut(..length).expect("the scratch has room");
             part.fill(0);
             part
         };
-        let mut take_lines = |columns: usize, rows: usize| {
+        let mut take_lines = |Extent { columns, rows }| {
             let one = take(columns + rows - 1);
             let two = [(); 2].map(|()| take(columns + (rows - 1) / 2));
             (one, two)
         };
-        let (rising_one, rising_two) = take_lines(layout.stride, layout.rows);
-        let (falling_one, falling_two) = take_lines(columns, rows);
+        let (rising_one, rising_two) = take_lines(layout.to_end());
+        let (falling_one, falling_two) = take_lines(extent);
         Sums {
             layout,
+            extent,
             planes,
             rising_one,
             rising_two,
             falling_one,
             falling_two,
-            third: take(columns),
-            second: take(columns),
-            down: take(columns),
+            third: take(extent.columns),
+            second: take(extent.columns),
+            down: take(extent.columns),
         }
     }
 
@@ -167,10 +174,10 @@ impl<'a> Sums<'a> {
         })
     }
 
-    /// Goes on to a row that the image's sums need.
-    fn add_row(&mut self, row: usize) {
+    /// Goes on to a row that the sums need.
+    pub fn add_row(&mut self, row: usize) {
         let [rise_two, rise_one, level, fall_one, fall_two, second, third] = self.cells(row);
-        let last = self.layout.image_end_row() - 1;
+        let last = self.extent.rows - 1;
         add_rising(
             rise_one,
             rise_two,
@@ -188,7 +195,7 @@ impl<'a> Sums<'a> {
         add_boxes(level, second, third, self.third, self.second, self.down);
     }
 
-    /// Goes on to a row below the image, which only rising lines come from.
+    /// Goes on to a row below them, which only rising lines come from.
     fn leave_row(&mut self, row: usize) {
         let [rise_two, rise_one, ..] = self.cells(row);
         take_off(&mut self.rising_one[row..], rise_one);
@@ -196,13 +203,13 @@ impl<'a> Sums<'a> {
     }
 
     /// After a pass that started from 0: whether a rising line has a total other than 0.
-    fn missed_totals(&self) -> bool {
+    pub fn missed_totals(&self) -> bool {
         let [even, odd] = &self.rising_two;
         [&*self.rising_one, even, odd].iter().any(|lines| lines.iter().any(|&line| line != 0))
     }
 
     /// After a pass that started from 0: makes ready for one that starts from the totals.
-    fn start_with_totals(&mut self) {
+    pub fn start_with_totals(&mut self) {
         let [even, odd] = &mut self.rising_two;
         for line in [&mut *self.rising_one, even, odd].into_iter().flatten() {
             *line = line.wrapping_neg();

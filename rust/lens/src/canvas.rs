@@ -2,7 +2,7 @@
 
 use std::fmt;
 
-use crate::plate::{Layer, Pictures, Pixel, Plate, Shape};
+use crate::plate::{Layer, Pictures, Pixel, Plate, Shape, Totals};
 use crate::raw::Lens;
 use crate::refusal::Refusal;
 
@@ -70,6 +70,11 @@ impl Canvas {
         self.plate
     }
 
+    /// Like [`Plate::total`].
+    pub fn total(&mut self) -> Totals {
+        self.plate.total()
+    }
+
     /// Like [`Plate::put`], and mends the pictures.
     ///
     /// # Errors
@@ -130,6 +135,8 @@ mod tests {
         for (x, shape) in Shape::ALL.into_iter().enumerate() {
             canvas.put(x, 2, pixel(shape, 2)).unwrap();
             before.push(shown(&canvas));
+            let matte = 8_388_608 * 200 * before.len() as u64;
+            assert_eq!(canvas.total(), Totals { matte, light: 1_000 * matte });
         }
         for pictures in before.iter().rev() {
             assert_eq!(shown(&canvas), *pictures);

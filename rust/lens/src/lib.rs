@@ -4,8 +4,9 @@
 //! builds it. A [`Plate`] owns the buffers that the engine works on. Pixels are set one by
 //! one ([`Plate::put`]) and stepped back ([`Plate::undo`]), or all at once by depth
 //! ([`Plate::fill`]). [`Plate::show`] gives the two pictures, value and matte, of the
-//! pixels that stand there now. A painter, who looks at them after every put, keeps them with
-//! the plate in a [`Canvas`] ([`Plate::paint`]): there a put mends what it changes.
+//! pixels that stand there now, and [`Plate::total`] what they add up to. A painter, who looks
+//! at the pictures after every put, keeps them with the plate in a [`Canvas`]
+//! ([`Plate::paint`]): there a put mends what it changes.
 //!
 //! ```
 //! use lens::{Pixel, Plate, Refusal, Shape};
@@ -34,6 +35,6 @@ pub mod raw;
 mod refusal;
 
 pub use canvas::Canvas;
-pub use plate::{Layer, Pictures, Pixel, Plate, Shape};
+pub use plate::{Layer, Pictures, Pixel, Plate, Shape, Totals};
 pub use raw::Lens;
 pub use refusal::Refusal;

@@ -70,6 +70,15 @@ pub struct Pictures {
     pub mattes: Vec<u8>,
 }
 
+/// What a plate adds up to.
+#[derive(Clone, Copy, Debug, PartialEq, Eq)]
+pub struct Totals {
+    /// 8,388,608 times the sum of all opacities.
+    pub matte: u64,
+    /// 8,388,608 times the sum of opacity × value.
+    pub light: u64,
+}
+
 /// A plate with its buffers. Calls that return a [`Refusal`] have changed nothing.
 #[derive(Clone)]
 pub struct Plate {
@@ -202,6 +211,28 @@ impl Plate {
         let answer = raw::show(self.state, &self.planes, &mut self.scratch, values, mattes);
         self.take(answer)?;
         Ok(())
+    }
+
+    /// Adds up the finished sums, which the pictures are rounded from, over all cells that
+    /// kernels reach, the image's and those around it. Light is neither made nor lost: each
+    /// pixel gives its opacity, and its opacity times its value, whole, whatever its kernel.
+    ///
+    /// ```
+    /// use lens::{Pixel, Plate, Refusal, Shape, Totals};
+    ///
+    /// // One row high: a box of radius 1 has six of its nine taps outside the image.
+    /// let mut plate = Plate::open(3, 1, 1, 2)?;
+    /// plate.put(1, 0, Pixel { value: 100, opacity: 255, shape: Shape::Box, radius: 1 })?;
+    /// plate.put(0, 0, Pixel { value: 40, opacity: 51, shape: Shape::Box, radius: 0 })?;
+    /// let whole = 8_388_608;
+    /// let light = whole * (255 * 100 + 51 * 40);
+    /// assert_eq!(plate.total(), Totals { matte: whole * (255 + 51), light });
+    /// # Ok::<(), Refusal>(())
+    /// ```
+    pub fn total(&mut self) -> Totals {
+        let totals = raw::total(self.state, &self.planes, &mut self.scratch);
+        self.take(totals.answer).expect("planes and scratch have the plate's size");
+        Totals { matte: totals.matte, light: totals.light }
     }
 
     /// Show into pictures and sums of the plate's size.

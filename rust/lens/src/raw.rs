@@ -36,6 +36,16 @@ pub struct Answer {
     pub state: State,
 }
 
+/// What total answers: the sums of finished matte and of finished light over all padded cells,
+/// wrapped; both 0 from a refused call.
+#[repr(C)]
+#[derive(Clone, Copy, Debug, PartialEq, Eq)]
+pub struct Totals {
+    pub answer: Answer,
+    pub matte: u64,
+    pub light: u64,
+}
+
 unsafe extern "C" {
     pub fn lens_open(
         width: usize,
@@ -104,6 +114,14 @@ unsafe extern "C" {
         mattes: *mut u8,
         mattes_len: usize,
     ) -> Answer;
+
+    pub fn lens_total(
+        state: State,
+        planes: *const u64,
+        planes_len: usize,
+        scratch: *mut u64,
+        scratch_len: usize,
+    ) -> Totals;
 
     pub fn lens_show_kept(
         state: State,
@@ -296,6 +314,13 @@ pub fn show(
             mattes.as_mut_ptr(),
             mattes.len(),
         )
+    }
+}
+
+#[inline]
+pub fn total(state: State, planes: &[u64], scratch: &mut [u64]) -> Totals {
+    unsafe {
+        lens_total(state, planes.as_ptr(), planes.len(), scratch.as_mut_ptr(), scratch.len())
     }
 }
 

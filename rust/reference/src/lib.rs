@@ -12,7 +12,7 @@
 //! | [`radius`] | Radius from depth |
 //! | [`rounding`] | Rounding |
 //! | [`pixel`] | the pixel word and the log entry |
-//! | [`spread`] | the plain pictures of a grid |
+//! | [`spread`] | the plain pictures of a grid, and what its pixels give in all |
 //! | [`notebook`] | Calls: the notebook |
 //! | [`marks`] | Marks |
 //! | [`table`] | Refused calls |
@@ -52,6 +52,22 @@ pub struct Answer {
     /// The mark count.
     pub marks: u32,
     pub state: State,
+}
+
+/// What total answers: the sums of finished matte and of finished light over all padded cells,
+/// wrapped.
+#[derive(Clone, Copy, Debug, PartialEq, Eq)]
+pub struct Totals {
+    pub answer: Answer,
+    pub matte: u64,
+    pub light: u64,
+}
+
+impl Totals {
+    /// An answer that comes without sums: they are 0.
+    pub fn none(answer: Answer) -> Totals {
+        Totals { answer, matte: 0, light: 0 }
+    }
 }
 
 /// The arguments of put, lawful or not.

@@ -219,6 +219,19 @@ pub fn marks_of_grid(grid: &Grid, reach: usize) -> Vec<u64> {
 
 /// The finished sums of one picture's seven planes, at the image cells.
 pub fn finished(planes: &[u64], layout: Layout) -> Vec<u64> {
+    let padded = finished_padded(planes, layout);
+    let mut image = Vec::new();
+    for row in layout.margin..layout.rows - layout.margin {
+        let start = row * layout.columns;
+        image.extend_from_slice(
+            &padded[start + layout.margin..start + layout.columns - layout.margin],
+        );
+    }
+    image
+}
+
+/// These sums at every cell of the padded plane.
+pub fn finished_padded(planes: &[u64], layout: Layout) -> Vec<u64> {
     let plane = |index: usize| planes[index * layout.cells()..][..layout.cells()].to_vec();
     let summed = |plane: &[u64]| down_sum(&slope_sum(plane, 0, layout), layout);
     let second = added(&plane(SECOND), &summed(&plane(THIRD)));
@@ -228,15 +241,7 @@ pub fn finished(planes: &[u64], layout: Layout) -> Vec<u64> {
         let sum = slope_sum(&plane(plane_of_slope(slope)), slope, layout);
         total = added(&total, &sum);
     }
-    let down = down_sum(&total, layout);
-    let mut image = Vec::new();
-    for row in layout.margin..layout.rows - layout.margin {
-        let start = row * layout.columns;
-        image.extend_from_slice(
-            &down[start + layout.margin..start + layout.columns - layout.margin],
-        );
-    }
-    image
+    down_sum(&total, layout)
 }
 
 fn added(first: &[u64], second: &[u64]) -> Vec<u64> {

@@ -8,7 +8,7 @@ use crate::kernel::Shape;
 use crate::pixel::Pixel;
 use crate::radius::FARTHEST;
 use crate::rounding::TOP_VALUE;
-use crate::spread::{Grid, Pictures, pictures};
+use crate::spread::{Grid, Pictures, Sum, pictures, total};
 use crate::{Fill, Put};
 
 /// What the notebook says of a call: the number, and the mark count.
@@ -140,12 +140,25 @@ impl Notebook {
         mattes: usize,
     ) -> (Report, Option<Pictures>) {
         let cells = self.grid.pixels.len();
-        let margins = 2 * self.reach + 6;
-        let padded = (self.grid.width + margins) * (self.grid.height + margins);
-        if scratch != 3 * padded || values != cells || mattes != cells {
+        if scratch != self.scratch() || values != cells || mattes != cells {
             return (Report::refused(2), None);
         }
         (Report::accepted(0), Some(pictures(&self.grid)))
+    }
+
+    /// The length of a scratch that fits.
+    fn scratch(&self) -> usize {
+        let margins = 2 * self.reach + 6;
+        3 * (self.grid.width + margins) * (self.grid.height + margins)
+    }
+
+    /// Total, lent a scratch of this length; with the matte and the light of all pixels, which
+    /// are 0 if it is refused.
+    pub fn total(&self, scratch: usize) -> (Report, Sum) {
+        if scratch != self.scratch() {
+            return (Report::refused(2), Sum::default());
+        }
+        (Report::accepted(0), total(&self.grid))
     }
 
     /// Show in its second form: the sums that it leaves are the plain ones of the grid.

@@ -2,7 +2,7 @@
 
 use std::ops::Range;
 
-use crate::kernel::Kernel;
+use crate::kernel::{Kernel, WHOLE};
 use crate::pixel::Pixel;
 use crate::rounding::{shown_matte, shown_value};
 
@@ -59,12 +59,25 @@ fn spread_all(grid: &Grid) -> Vec<Sum> {
     sums
 }
 
-/// The light and the matte of a cell. Neither can overflow: at most 2^21 pixels
-/// add at most 255 × 2^23 each, in light 4,095 times that.
+/// The light and the matte of a cell, or of a whole plate. Neither can overflow: at most 2^21
+/// pixels add at most 255 × 2^23 each, in light 4,095 times that.
 #[derive(Clone, Copy, Debug, Default, PartialEq, Eq)]
 pub struct Sum {
     pub light: u64,
     pub matte: u64,
+}
+
+/// All that the pixels give, on the image or beside it: 8,388,608 times the sum of their
+/// opacities, and times the sum of opacity times value. Neither can overflow.
+pub fn total(grid: &Grid) -> Sum {
+    let times_whole = |given: fn(Pixel) -> u64| {
+        let sum: u128 = grid.pixels.iter().map(|&pixel| u128::from(given(pixel))).sum();
+        u64::try_from(u128::from(WHOLE) * sum).expect("no plate gives more than 64 bits hold")
+    };
+    Sum {
+        light: times_whole(|pixel| u64::from(pixel.opacity) * u64::from(pixel.value)),
+        matte: times_whole(|pixel| u64::from(pixel.opacity)),
+    }
 }
 
 /// Adds one pixel's kernel to the cells of the image that it reaches: the share for each

@@ -6,10 +6,10 @@
 
 use crate::kept::{Change, Kept};
 use crate::kernel::Shape;
-use crate::marks::{Layout, PLANES, finished, lay};
+use crate::marks::{Layout, PLANES, finished, finished_padded, lay};
 use crate::pixel::{Pixel, entry, from_entry};
 use crate::table::{Call, Plate, expected_refusal};
-use crate::{Answer, Fill, Put, State};
+use crate::{Answer, Fill, Put, State, Totals};
 
 fn refused(number: u32, state: State) -> Answer {
     Answer { number, marks: 0, state }
@@ -203,6 +203,27 @@ fn finished_sums(state: State, planes: &[u64]) -> Vec<u64> {
     let layout = Layout::of(state.width, state.height, state.reach);
     let (light, matte) = planes.split_at(PLANES * layout.cells());
     [finished(light, layout), finished(matte, layout)].concat()
+}
+
+pub fn total(state: State, planes: &[u64], scratch: &mut [u64]) -> Totals {
+    let length = Call::Total { scratch: scratch.len() };
+    let plate = Plate { planes: planes.len(), pixels: &[], log: &[], kept: None };
+    match expected_refusal(length, state, plate) {
+        0 => {}
+        number => return Totals::none(refused(number, state)),
+    }
+    let layout = Layout::of(state.width, state.height, state.reach);
+    let (light, matte) = planes.split_at(PLANES * layout.cells());
+    scratch.fill(0);
+    Totals {
+        answer: Answer { number: 0, marks: 0, state },
+        matte: added_up(&finished_padded(matte, layout)),
+        light: added_up(&finished_padded(light, layout)),
+    }
+}
+
+fn added_up(sums: &[u64]) -> u64 {
+    sums.iter().fold(0, |total, sum| total.wrapping_add(*sum))
 }
 
 /// Both pictures from the sums.

@@ -21,11 +21,15 @@ pub enum Call<'a> {
         values: usize,
         mattes: usize,
     },
+    /// The length of scratch.
+    Total {
+        scratch: usize,
+    },
 }
 
 /// What calls are lent of the plate: the planes' length, and pixels and log themselves.
-/// Show is lent no pixels and no log: whatever stands here is not looked at. The second form
-/// of a call is told from the first by what it is lent to keep.
+/// Show and total are lent no pixels and no log: whatever stands here is not looked at. The
+/// second form of a call is told from the first by what it is lent to keep.
 #[derive(Clone, Copy, Debug)]
 pub struct Plate<'a> {
     pub planes: usize,
@@ -91,12 +95,14 @@ fn wrong_length(call: Call, state: State, plate: Plate) -> bool {
             let scratch = scratch != 3 * layout.cells();
             planes || scratch || values != cells || mattes != cells || kept
         }
+        Call::Total { scratch } => planes || scratch != 3 * layout.cells(),
     }
 }
 
-/// Open has no count yet, and show is not lent the log.
+/// Open has no count yet, and show and total are not lent the log.
 fn count_above_log(call: Call, state: State, plate: Plate) -> bool {
-    !matches!(call, Call::Open | Call::Show { .. }) && state.count > plate.log.len()
+    let has_log = !matches!(call, Call::Open | Call::Show { .. } | Call::Total { .. });
+    has_log && state.count > plate.log.len()
 }
 
 fn value_above(call: Call) -> bool {

@@ -1,5 +1,5 @@
-//! No function that show runs through has an array, in any crate: sums are read and raised in the
-//! cells that the caller lends, and no row or column of them is copied to the stack.
+//! No function that show or total runs through has an array, in any crate: sums are read and raised
+//! in the cells that the caller lends, and no row or column of them is copied to the stack.
 
 use source::item::Item;
 use source::mention::{How, Mention, mentions};
@@ -9,12 +9,14 @@ use source::walk::{Fault, Walk, What};
 use std::collections::BTreeSet;
 use std::io::Write;
 
-/// Show in both forms, and both from C.
-const SHOWS: [&str; 4] = [
+/// Show in both forms, and total; and these from C.
+const STARTS: [&str; 6] = [
     "plate::show::show",
     "lens_c::lens_show",
     "plate::kept::show_kept",
     "lens_c::lens_show_kept",
+    "plate::total::total",
+    "lens_c::lens_total",
 ];
 
 /// The crate that reaches all of them.
@@ -26,7 +28,7 @@ fn engine() -> Sources {
 
 fn faults(sources: &Sources) -> Result<Vec<Fault>, String> {
     let program = Program::read(sources, LAST)?;
-    Ok(Walk::from(&program, &SHOWS)?.faults)
+    Ok(Walk::from(&program, &STARTS)?.faults)
 }
 
 /// The one thing that is wrong with a copy, and the item that has it.
@@ -49,23 +51,25 @@ fn calls(item: &Item) -> Vec<Mention> {
 }
 
 #[test]
-fn no_function_of_a_show_has_an_array() {
+fn no_function_of_a_show_or_a_total_has_an_array() {
     let program = Program::read(&engine(), LAST).expect("crates that can be read");
-    let walk = Walk::from(&program, &SHOWS).expect("show is there");
+    let walk = Walk::from(&program, &STARTS).expect("show and total are there");
     let told: Vec<String> = walk.faults.iter().map(Fault::to_string).collect();
-    assert!(told.is_empty(), "below show:\n{}", told.join("\n"));
+    assert!(told.is_empty(), "below show or total:\n{}", told.join("\n"));
 
     let paths: Vec<String> = walk.functions().map(|item| program.path(item)).collect();
     let crates: BTreeSet<&str> =
         paths.iter().filter_map(|path| path.split("::").next()).collect();
     let crates = Vec::from_iter(crates).join(", ");
-    writeln!(std::io::stderr(), "show runs through {} functions of {crates}", paths.len())
+    let count = paths.len();
+    writeln!(std::io::stderr(), "show and total run through {count} functions of {crates}")
         .expect("standard error can be written");
 }
 
-/// In the function that raises a cell by a sum, six calls below show.
+/// In the function that raises a cell by a sum, six calls below show and five below total: the
+/// shorter way is told.
 #[test]
-fn an_array_deep_below_show_is_found_and_named() {
+fn an_array_deep_below_them_is_found_and_named() {
     let engine = engine();
     let file = "plate/src/pass.rt";
     let text = engine.text(file).expect("the sums' file");
@@ -74,16 +78,17 @@ fn an_array_deep_below_show_is_found_and_named() {
     let faults = faults(&copy).expect("a copy that can be read");
     let told: Vec<String> = faults.iter().map(Fault::to_string).collect();
     let line = 1 + text[..raised].matches('\n').count();
-    let above = "plate::show::show, plate::show::show_all, plate::show::sum_above, \
-                 plate::show::sum_both, plate::pass::sum_next, plate::pass::sum_row";
+    let above = "plate::total::total, plate::total::total_all, plate::total::add_up, \
+                 plate::pass::sum_next, plate::pass::sum_row";
     assert_eq!(told, [format!("plate::pass::add_to has an array ({file}:{line}), by {above}")]);
 }
 
 #[test]
-fn an_array_in_any_function_of_a_show_is_found_and_named() {
+fn an_array_in_any_of_these_functions_is_found_and_named() {
     let engine = engine();
     let program = Program::read(&engine, LAST).expect("crates that can be read");
-    for function in Walk::from(&program, &SHOWS).expect("show is there").functions() {
+    for function in Walk::from(&program, &STARTS).expect("show and total are there").functions()
+    {
         let Placed { item, file, .. } = program.item(function);
         let copy = engine.edited(file, body_start(item), "", "let row: &[u64] = &[0; 4]; ");
         assert_eq!(only_fault(&copy), (What::Array, program.path(function)));
@@ -95,7 +100,8 @@ fn a_call_that_is_renamed_is_not_found() {
     let engine = engine();
     let program = Program::read(&engine, LAST).expect("crates that can be read");
     let mut renamed = 0;
-    for function in Walk::from(&program, &SHOWS).expect("show is there").functions() {
+    for function in Walk::from(&program, &STARTS).expect("show and total are there").functions()
+    {
         let Placed { item, file, .. } = program.item(function);
         for Mention { mut path, at, .. } in calls(item) {
             let name = path.pop().expect("a path with a name");
@@ -113,14 +119,24 @@ fn a_call_that_is_renamed_is_not_found() {
 #[test]
 fn a_function_that_is_renamed_or_not_brought_in_is_not_found() {
     let engine = engine();
-    let [show_all, keep_all, lay_both] =
-        ["plate::show::show_all", "plate::kept::keep_all", "plate::show::lay_both"];
+    let [show_all, keep_all, total_all, start_sums] = [
+        "plate::show::show_all",
+        "plate::kept::keep_all",
+        "plate::total::total_all",
+        "plate::pass::start_sums",
+    ];
     let (definition, renamed) = ("pub(crate) fn clear(", "pub(crate) fn clean(");
     let import = "use crate::clear::clear;";
     for (file, old, new, callers) in [
-        ("plate/src/clear.rt", definition, renamed, &[show_all, keep_all, lay_both][..]),
-        ("plate/src/show.rt", import, "", &[show_all, lay_both]),
+        (
+            "plate/src/clear.rt",
+            definition,
+            renamed,
+            &[show_all, keep_all, total_all, start_sums][..],
+        ),
+        ("plate/src/show.rt", import, "", &[show_all]),
         ("plate/src/kept.rt", import, "", &[keep_all]),
+        ("plate/src/pass.rt", import, "", &[start_sums]),
     ] {
         let at = engine.text(file).and_then(|text| text.find(old)).expect("the old text");
         let faults =

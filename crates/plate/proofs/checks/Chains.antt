@@ -1,13 +1,14 @@
 -- Checks in a row: the refusal of the first, or else what the next ones say.
 use mathlib.Core.Path.{_≡_}
-use Prim.Native.Nat.{ℕ}
+use Prim.Native.Nat.{ℕ, _*_}
 use lib.ListN.{length}
-use Rattle.plate.specs.Layout.{Size}
+use Rattle.plate.specs.Fixed.{planesInAll, scratchPlanes}
+use Rattle.plate.specs.Layout.{Size, padded}
 use Rattle.plate.specs.Lent.{State, Sized, Inputs}
-use Rattle.plate.specs.Refusal.{Outcome, Accepted, sizesCheck, lentCheck, inputsCheck, openCheck, plateCheck, fillFirst}
+use Rattle.plate.specs.Refusal.{Outcome, Accepted, sizesCheck, lengthCheck, lentCheck, inputsCheck, openCheck, plateCheck, fillFirst, totalCheck}
 use Rattle.plate.specs.code.Filling.{fillLengths}
 use Rattle.plate.proofs.checks.Rows.{andThen, check-before}
-use Rattle.plate.proofs.checks.Conditions.{sizes-checks, lent-checks, inputs-checks, count-checks}
+use Rattle.plate.proofs.checks.Conditions.{sizes-checks, lent-checks, inputs-checks, count-checks, total-checks}
 
 pub sizes-before : (z : Size) (a next : Outcome) → sizesCheck z (andThen a next) ≡ andThen (sizesCheck z a) next
 sizes-before z = check-before (sizes-checks z)
@@ -47,3 +48,10 @@ fill-before s f n next =
       lent-before (s .size) n _ next,
       sizes-before (s .size) _ next,
     )
+
+-- a show checks first what a total checks
+pub total-before : (z : Size) (planes scratch : ℕ) (next : Outcome)
+    → sizesCheck z (lengthCheck planes (planesInAll * padded z) (lengthCheck scratch (scratchPlanes * padded z) next))
+    ≡ andThen (totalCheck z planes scratch) next
+unfolding totalCheck
+total-before z planes scratch next = rw (check-before (total-checks z planes scratch) Accepted next, sizes-before z _ next)

@@ -76,6 +76,14 @@ unfolding inputsCheck
 inputs-checks z v o d =
     checks-both (length-checks v (places z)) (checks-both (length-checks o (places z)) (length-checks d (places z)))
 
+-- what a total is lent: planes and scratch
+pub total-checks : (z : Size) (p s : ℕ)
+    → Checks Lengths
+    ((p ≢ planesInAll * padded z) ⊎ (s ≢ scratchPlanes * padded z))
+    ((p ≡ planesInAll * padded z) × (s ≡ scratchPlanes * padded z))
+    (λ next. lengthCheck p (planesInAll * padded z) (lengthCheck s (scratchPlanes * padded z) next))
+total-checks z p s = checks-both (length-checks p (planesInAll * padded z)) (length-checks s (scratchPlanes * padded z))
+
 -- what a show is lent: planes, scratch and the pictures
 pub views-checks : (z : Size) (p s v m : ℕ)
     → Checks Lengths

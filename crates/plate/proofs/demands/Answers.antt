@@ -12,13 +12,14 @@ use Rattle.kernels.specs.Shape.{shapeOf}
 use Rattle.plate.specs.Layout.{Size, sizeFrom}
 use Rattle.plate.specs.Lent.{State, stateOf, Lent, sizedAs, Ask, Inputs, Views, Canvas}
 use Rattle.plate.specs.Word.{readWord, readEntry}
-use Rattle.plate.specs.Refusal.{Refusal, Sizes, Lengths, LogCount, Place, Value, Shape, Radius, LogFull, StoredWord, Lens, Depth, DepthInside, Outcome, Accepted, Refused, openCheck, plateCheck, askCheck, putCheck, undoCheck, emptyCheck, fillFirst, layerCheck, fillCheck, viewsCheck, showCheck, sizesCheck, canvasCheck, keptCheck, showKeptCheck}
+use Rattle.plate.specs.Refusal.{Refusal, Sizes, Lengths, LogCount, Place, Value, Shape, Radius, LogFull, StoredWord, Lens, Depth, DepthInside, Outcome, Accepted, Refused, openCheck, plateCheck, askCheck, putCheck, undoCheck, emptyCheck, fillFirst, layerCheck, fillCheck, viewsCheck, totalCheck, showCheck, sizesCheck, canvasCheck, keptCheck, showKeptCheck}
 use Rattle.plate.specs.Change.{Change, ChangeRead, ToChange, NoChange, askedPlace, putOver, putReadBy, putRead, undoOver, undoEntry, undoReadBy, undoRead}
 use Rattle.plate.specs.Calls.{Left, refused, Shown, shows, answerOf, openBy, openCall, putBy, putCall, undoBy, undoCall, fillBy, fillCall, showBy, showCall, changed}
 use Rattle.plate.specs.Kept.{Refreshed, leavesKept, keptRead, canvasFirst, canvasBy, putKeptBy, putKeptCall, undoKeptBy, undoKeptCall, sumsBy, ShownKept, showsKept, showKeptBy, showKeptCall}
-use Rattle.plate.specs.Table.{AnswersBy, CanvasWrong, SizesOutside, LentWrong, InputsWrong, ViewsWrong, CountAbove, PlaceOutside, ValueAbove, SomeOf, ShapeAbove, RadiusAbove, WordBroken, EntryBroken, placeIn, LensOutside, DepthAbove, InsideLens, LawfulSize, openRows, putRows, undoRows, fillRows, showRows, putKeptRows, undoKeptRows, showKeptRows, CallBy, GoesBy, ShowGoesBy, KeptGoesBy, ShowKeptGoesBy, Orders, Demand1, OpenAccepts}
+use Rattle.plate.specs.Total.{Totalled, totalled, noTotals, totalBy, totalCall}
+use Rattle.plate.specs.Table.{AnswersBy, CanvasWrong, SizesOutside, LentWrong, InputsWrong, ViewsWrong, TotalWrong, CountAbove, PlaceOutside, ValueAbove, SomeOf, ShapeAbove, RadiusAbove, WordBroken, EntryBroken, placeIn, LensOutside, DepthAbove, InsideLens, LawfulSize, openRows, putRows, undoRows, fillRows, showRows, totalRows, putKeptRows, undoKeptRows, showKeptRows, CallBy, GoesBy, ShowGoesBy, KeptGoesBy, ShowKeptGoesBy, TotalGoesBy, Orders, Demand1, OpenAccepts}
 use Rattle.plate.proofs.checks.Rows.{refused-not, last-row, andThen, answers-then, Checks, by-check, check-before, first-check, checks-both}
-use Rattle.plate.proofs.checks.Conditions.{sizes-checks, length-checks, lent-checks, inputs-checks, views-checks, canvas-checks, count-checks, place-checks, value-checks, shape-checks, radius-checks, full-checks, empty-checks, above-checks, inside-checks, lens-checks}
+use Rattle.plate.proofs.checks.Conditions.{sizes-checks, length-checks, lent-checks, inputs-checks, total-checks, views-checks, canvas-checks, count-checks, place-checks, value-checks, shape-checks, radius-checks, full-checks, empty-checks, above-checks, inside-checks, lens-checks}
 use Rattle.plate.proofs.checks.Passed.{sizes-pass, lent-pass}
 use Rattle.plate.proofs.checks.Accepted.{plate-accepted}
 use Rattle.plate.proofs.words.Stored.{WordTold, word-told, EntryTold, entry-told}
@@ -282,6 +283,15 @@ show-kept-goes s planes v sums =
     (λ o e. rw e) (λ o f e. rw e) (λ f. refl) (showKeptRows s planes v sums) _
     (also-checked (s .size) (length-checks (length sums) _) _ [] _ (show-first s planes v))
 
+-- TOTAL
+total-goes : (s : State) (planes scratch : List ℕ) → TotalGoesBy (totalRows s planes scratch) s scratch (totalCall s planes scratch)
+unfolding totalCall totalBy totalCheck TotalWrong
+total-goes s planes scratch =
+    call-by (λ o. o) (λ (a : Totalled). a .totals .answer .outcome) (λ f. totalled (noTotals (answerOf (Refused f) 0 s)) scratch)
+    (λ o. totalBy o s planes scratch) (λ o e. rw e) (λ o f e. rw e) (λ f. refl) (totalRows s planes scratch) _
+    (first-check (sizes-checks (s .size)) _ _ (λ _.
+    first-check (total-checks (s .size) (length planes) (length scratch)) [] Accepted (λ _. last-row)))
+
 pub demand-1 : Demand1
 demand-1 =
     record {
@@ -293,6 +303,7 @@ demand-1 =
       put-kept-by = put-kept-goes;
       undo-kept-by = undo-kept-goes;
       show-kept-by = show-kept-goes;
+      total-by = total-goes;
     }
 
 pub orders : Orders
@@ -303,6 +314,7 @@ orders =
       of-undo = λ s l. refl;
       of-fill = λ s o k f l. refl;
       of-show = λ s planes v. refl;
+      of-total = λ s planes scratch. refl;
       of-put-kept = λ s a l k. refl;
       of-undo-kept = λ s l k. refl;
       of-show-kept = λ s planes v sums. refl;

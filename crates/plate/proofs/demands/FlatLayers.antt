@@ -1,19 +1,17 @@
 -- Flat layers: a cell that one pixel alone surrounds gets the whole of that pixel's light and matte, so it shows the pixel.
 use mathlib.Core.Path.{_≡_, ap, _∙_}
 use mathlib.Core.List.{List}
-use Prim.Native.Nat.{ℕ, zero, suc, _+_, _*_, _-_, _/_, _%_, _≤_, _<_}
+use Prim.Native.Nat.{ℕ, _+_, _*_, _/_, _%_, _≤_, _<_}
 use native.Mathlib.Omega.{arith}
 use native.Mathlib.Nat.{mul-le-mul-right, div-add-mod'}
-use lib.Arith.{digits-div, digits-mod}
 use Rattle.kernels.specs.Fixed.{unit, matteUnit, valueTop}
-use Rattle.kernels.specs.Sum.{sum, Row, dist}
+use Rattle.kernels.specs.Sum.{dist}
 use Rattle.kernels.specs.Shape.{reachOf}
-use Rattle.kernels.specs.Tap.{Taps, squareSum}
 use Rattle.kernels.specs.Rounding.{shownValue, shownMatte}
 use Rattle.kernels.proofs.numbers.Choices.{by-lt}
 use Rattle.kernels.proofs.numbers.Nearest.{nearest-at, even-once, value-to-even}
-use Rattle.kernels.proofs.sums.FiniteSums.{sum-ext, sum-ext-lt, sum-add, sum-mul, sum-zero, sum-none, sum-parts, sum-between}
-use Rattle.kernels.proofs.taps.Areas.{shapes-whole, weight-far-x, weight-far-y}
+use Rattle.kernels.proofs.sums.FiniteSums.{sum-ext-lt, sum-mul}
+use Rattle.kernels.proofs.taps.Areas.{weight-far-x, weight-far-y}
 use Rattle.plate.specs.Layout.{Size, places}
 use Rattle.plate.specs.Word.{Pixel, Fits}
 use Rattle.plate.specs.Kernel.{weightOf}
@@ -22,59 +20,8 @@ use Rattle.plate.specs.Notebook.{Book}
 use Rattle.plate.specs.Flat.{OnPlate, InSquare, FlatAt, AlikeFlat, FlatShows, FlatSeen}
 use Rattle.plate.proofs.numbers.Extents.{place-within}
 use Rattle.plate.proofs.numbers.Lists.{getD-listTo}
+use Rattle.plate.proofs.demands.Squares.{sum-places, weights-on}
 use Rattle.plate.proofs.demands.Demand.{opened, demand-2}
-
--- SQUARES ON A PLATE
--- a sum over the places of w columns and h rows, column by column
-sum-places : (f : ℕ → ℕ → ℕ) (w h : ℕ) → sum (λ j. f (j % w) (j / w)) (w * h) ≡ sum (λ x. sum (λ y. f x y) h) w
-unfolding sum
-sum-places f w zero = let e : w * 0 ≡ 0 = omega arith in rw (e, sum-zero w)
-sum-places f w (suc h) =
-    let e : w * suc h ≡ w * h + w = omega arith in
-    let parts = sum-parts (λ j. f (j % w) (j / w)) (w * h) w in
-    let row = sum-ext-lt _ (λ x. f x h) w at in
-    rw e (omega (arith, parts, sum-places f w h, row, sum-add (λ x. sum (λ y. f x y) h) (λ x. f x h) w))
-  where
-    at : (x : ℕ) → x < w → f ((w * h + x) % w) ((w * h + x) / w) ≡ f x h
-    at x p =
-        let e : w * h + x ≡ h * w + x = omega arith in
-        rw (e, digits-mod h {m = w} {r = x} p, digits-div h {m = w} {r = x} p)
-
--- on an axis of n cells: what goes by the distance from cell c and is 0 further than m from it, if the cells up to there lie on
--- the axis
-axis-on : (g : Row) (m c n : ℕ) → ((d : ℕ) → m < d → g d ≡ 0) → m ≤ c → c + m < n
-    → sum (λ x. g (dist c x)) n ≡ sum (λ x. g (dist x m)) (2 * m + 1)
-axis-on g m c n far low high =
-    let e : n ≡ c - m + (2 * m + 1) + (n - suc (c + m)) = omega arith in
-    ap (sum (λ x. g (dist c x))) e
-    ∙ sum-between (λ x. g (dist c x)) (c - m) (2 * m + 1) (n - suc (c + m))
-    (λ k h. far (dist c k) (omega arith))
-    (λ k h. far (dist c k) (omega arith))
-    ∙ sum-ext _ _ (λ k. ap g (moved k)) (2 * m + 1)
-  where
-    moved : (k : ℕ) → dist c (c - m + k) ≡ dist k m
-    moved k = omega arith
-
--- on a plate: taps that are 0 further than m from their centre, if the square that reaches m from it lies on the plate
-square-on : (f : Taps) (m x0 y0 w h : ℕ) → ((dx dy : ℕ) → m < dx → f dx dy ≡ 0) → ((dx dy : ℕ) → m < dy → f dx dy ≡ 0)
-    → m ≤ x0 → x0 + m < w → m ≤ y0 → y0 + m < h
-    → sum (λ j. f (dist x0 (j % w)) (dist y0 (j / w))) (w * h) ≡ squareSum f m
-square-on f m x0 y0 w h far-x far-y left right top bottom =
-    sum-places (λ x y. f (dist x0 x) (dist y0 y)) w h
-    ∙ sum-ext _ _ (λ x. axis-on (f (dist x0 x)) m y0 h (far-y (dist x0 x)) top bottom) w
-    ∙ axis-on (λ d. sum (λ y. f d (dist y m)) (2 * m + 1)) m x0 w column left right
-  where
-    column : (d : ℕ) → m < d → sum (λ y. f d (dist y m)) (2 * m + 1) ≡ 0
-    column d g = sum-none _ (2 * m + 1) (λ y _. far-x d (dist y m) g)
-
--- the weights of a pixel's kernel are then the whole
-weights-on : (p : Pixel) (x0 y0 w h : ℕ) →
-    let m = reachOf (p .shape) (p .radius) in
-    m ≤ x0 → x0 + m < w → m ≤ y0 → y0 + m < h → sum (λ j. weightOf p (dist x0 (j % w)) (dist y0 (j / w))) (w * h) ≡ unit
-weights-on p x0 y0 w h left right top bottom =
-    let s = p .shape in
-    let r = p .radius in
-    square-on (weightOf p) (reachOf s r) x0 y0 w h (weight-far-x s r) (weight-far-y s r) left right top bottom ∙ shapes-whole s r
 
 -- A FLAT LAYER
 -- a place lies in the square around a cell or it does not
@@ -130,7 +77,9 @@ module _ (z : Size) (grid : List Pixel) (p : Pixel) (i : ℕ) (flat : FlatAt z g
   flat-sum worth =
       sum-ext-lt _ (λ j. worth p * weightAt z p j i) (places z) (flat-term worth)
       ∙ sum-mul (worth p) (λ j. weightAt z p j i) (places z)
-      ∙ ap (λ (n : ℕ). worth p * n) (weights-on p _ _ _ _ (on .left-on) (on .right-on) (on .top-on) (on .bottom-on))
+      ∙ ap (λ (n : ℕ). worth p * n)
+      (sum-places (λ x y. weightOf p (dist (i % z .width) x) (dist (i / z .width) y)) (z .width) (z .height)
+      ∙ weights-on p _ _ _ _ (on .left-on) (on .right-on) (on .top-on) (on .bottom-on))
     where
       on : OnPlate z (reachOf (p .shape) (p .radius)) i
       on = flat .on-plate

@@ -9,13 +9,14 @@ use Rattle.kernels.specs.Sum.{sum, Row, Planes, dist, finish}
 use Rattle.kernels.specs.Mark.{Mark, marksTo, planesOf}
 use Rattle.kernels.proofs.numbers.Choices.{by-lt, if-within, within-yes}
 use Rattle.kernels.proofs.numbers.Products.{product-le}
-use Rattle.kernels.proofs.sums.FiniteSums.{sum-ext-lt, sum-none, sum-cong}
+use Rattle.kernels.proofs.sums.FiniteSums.{sum-ext, sum-ext-lt, sum-none, sum-cong}
 use Rattle.kernels.proofs.sums.PlaneSums.{_≈²_, finish-cong-planes}
 use Rattle.kernels.proofs.marking.MarkLists.{planes-to, finish-to}
 use Rattle.kernels.proofs.taps.Areas.{weight-le}
 use Rattle.kernels.proofs.marking.Kernel.{kernel}
 use Rattle.plate.specs.Layout.{Size, wide, high, padded, cell, places, columnOf, rowOf}
 use Rattle.plate.specs.Word.{Pixel}
+use Rattle.plate.specs.Kernel.{weightOf}
 use Rattle.plate.specs.Marks.{pixelMarks, total}
 use Rattle.plate.specs.Calls.{stored, sumAt}
 use Rattle.plate.specs.Plain.{pixelAt, lightOf, matteOf, weightAt, plainSum, gridCell}
@@ -25,7 +26,7 @@ use Rattle.plate.specs.Fixed.{planesInAll, placesTop}
 use Rattle.kernels.specs.Fixed.{opacityTop, valueTop, planesEach, margin, unit}
 
 -- THE PLAIN SUMS DO NOT WRAP
-sum-le : (f : Row) (c n : ℕ) → ((k : ℕ) → f k ≤ c) → sum f n ≤ n * c
+pub sum-le : (f : Row) (c n : ℕ) → ((k : ℕ) → f k ≤ c) → sum f n ≤ n * c
 unfolding sum
 sum-le f c zero h = omega arith
 sum-le f c (suc n) h = omega (arith, sum-le f c n h, h n)
@@ -98,15 +99,27 @@ stored-as z planes p m inside outside d h x y =
     away : (x < wide z → y < high z → ⊥) → stored z planes p d x y % 2 ^ 64 ≡ m d x y % 2 ^ 64
     away n = rw (stored-out z planes p d x y n, outside d x y n)
 
--- a pixel's marks, finished at another place
+-- what the pixel q at place j adds to a cell of the padded plane, for opacity 1
+abbrev pub cellWeight : Size → Pixel → ℕ → ℕ → ℕ → ℕ
+cellWeight z q j x y = weightOf q (dist x (columnOf z j)) (dist y (rowOf z j))
+
+-- at a cell of the image that is its weight there
+place-weight : (z : Size) (q : Pixel) (j i : ℕ) → cellWeight z q j (columnOf z i) (rowOf z i) ≡ weightAt z q j i
+place-weight z q j i =
+    rw (dist-padded (i % z .width) (j % z .width) (z .reach), dist-padded (i / z .width) (j / z .width) (z .reach))
+
+-- a pixel's marks, finished at any cell
+finish-at : (z : Size) (q : Pixel) (w j x y : ℕ) → Fits (z .reach) q
+    → finish (planesOf (laid z w j q)) x y % 2 ^ 64 ≡ w * cellWeight z q j x y % 2 ^ 64
+unfolding laid
+finish-at z q w j x y fits =
+    let u = reach-under (z .reach) (q .shape) (q .radius) (fits .radius-fits) in
+    kernel (q .shape) (q .radius) w (columnOf z j) (rowOf z j) x y (omega arith) (omega arith)
+
+-- and at another place
 pub finish-laid : (z : Size) (q : Pixel) (w j i : ℕ) → Fits (z .reach) q
     → finish (planesOf (laid z w j q)) (columnOf z i) (rowOf z i) % 2 ^ 64 ≡ w * weightAt z q j i % 2 ^ 64
-unfolding laid
-finish-laid z q w j i fits =
-    let R = z .reach in
-    let u = reach-under R (q .shape) (q .radius) (fits .radius-fits) in
-    rw (← dist-padded (i % z .width) (j % z .width) R, ← dist-padded (i / z .width) (j / z .width) R)
-    (kernel (q .shape) (q .radius) w (columnOf z j) (rowOf z j) (columnOf z i) (rowOf z i) (omega arith) (omega arith))
+finish-laid z q w j i fits = rw (← place-weight z q j i) (finish-at z q w j (columnOf z i) (rowOf z i) fits)
 
 -- the marks of the pixel at a place of a grid in one picture, by what a pixel is worth there, and those of all its pixels
 abbrev gridLaid : Size → List Pixel → (Pixel → ℕ) → ℕ → List Mark
@@ -134,15 +147,23 @@ module _ (z : Size) (planes : List ℕ) (grid : List Pixel) (law : LawfulSize z)
         planes-to (gridLaid z grid worth) (places z) d x y
         ∙ sum-none _ (places z) (λ i g. laid-outside z law i g (pixelAt grid i) (fits i) d x y _ n)
 
-    -- a finished sum is the plain one, wrapped
+    -- a finished cell of the padded plane is what all pixels add there, wrapped
+    pub cell-wrapped : (x y : ℕ)
+        → finish (stored z planes p) x y % 2 ^ 64
+        ≡ sum (λ j. worth (pixelAt grid j) * cellWeight z (pixelAt grid j) j x y) (places z) % 2 ^ 64
+    cell-wrapped x y =
+        finish-cong-planes (stored z planes p) (planesOf (allLaid z grid worth))
+        (stored-as z planes p (planesOf (allLaid z grid worth)) stored-inside stored-outside) x y
+        ∙ ap (λ (n : ℕ). n % 2 ^ 64) (finish-to (gridLaid z grid worth) (places z) x y)
+        ∙ sum-cong _ _ (λ j. finish-at z (pixelAt grid j) (worth (pixelAt grid j)) j x y (fits j)) (places z)
+
+    -- so a finished sum is the plain one, wrapped
     sum-wrapped : (i : ℕ) → sumAt z planes p i ≡ plainSum z grid worth i % 2 ^ 64
     unfolding sumAt plainSum
     sum-wrapped i =
-        finish-cong-planes (stored z planes p) (planesOf (allLaid z grid worth))
-        (stored-as z planes p (planesOf (allLaid z grid worth)) stored-inside stored-outside)
-        (columnOf z i) (rowOf z i)
-        ∙ ap (λ (n : ℕ). n % 2 ^ 64) (finish-to (gridLaid z grid worth) (places z) (columnOf z i) (rowOf z i))
-        ∙ sum-cong _ _ (λ j. finish-laid z (pixelAt grid j) (worth (pixelAt grid j)) j i (fits j)) (places z)
+        cell-wrapped (columnOf z i) (rowOf z i)
+        ∙ ap (λ (n : ℕ). n % 2 ^ 64)
+        (sum-ext _ _ (λ j. ap (λ (n : ℕ). worth (pixelAt grid j) * n) (place-weight z (pixelAt grid j) j i)) (places z))
 
 -- the two sums of a show at a place are the plain ones
 pub show-fact : (z : Size) (planes : List ℕ) (grid : List Pixel) → LawfulSize z → length planes ≡ planesInAll * padded z

@@ -1,10 +1,9 @@
 -- Both pictures side by side: what sums the one leaves the other.
 use mathlib.Core.Path.{_≡_, ap, _∙_}
-use mathlib.Core.List.{List, _++_}
-use Prim.Native.Nat.{ℕ, _+_, _*_, _-_, _<_, _≤_}
+use mathlib.Core.List.{List}
+use Prim.Native.Nat.{ℕ, _<_, _≤_}
 use native.Mathlib.Omega.{arith}
-use lib.ListN.{length, getD, take, drop, length-take, length-drop, length-append, length-replicate, getD-replicate, List·getD-append}
-use Rattle.plate.specs.Calls.{zeros}
+use lib.ListN.{length, getD}
 use Rattle.plate.specs.code.Passes.{Picture, sumsEnd, matteAfter, startsAt, PictureIn, OnlySums, SummedTo, Summed}
 use Rattle.plate.specs.code.Showing.{BothIn, BothSummed}
 use Rattle.plate.proofs.showing.Starts.{in-place}
@@ -78,15 +77,3 @@ both-summed light m s s1 s2 y some low one two =
             matte-to = two .to;
           };
     }
-
--- the first n cells are cleared
-module _ (s ys : List ℕ) (n : ℕ) (l : n ≤ length s) (e : ys ≡ zeros (length (take n s))) where
-  cut : length (take n s) ≡ n
-  cut = simp length-take (omega arith)
-
-  pub cleared-same : length (ys ++ drop n s) ≡ length s
-  cleared-same = rw (e, cut) (simp (length-append, length-replicate, length-drop) (omega arith))
-
-  pub cleared-at : (j : ℕ) → j < n → getD (ys ++ drop n s) j 0 ≡ 0
-  cleared-at j g =
-      rw (e, cut) (List·getD-append (zeros n) (drop n s) 0 j (omega (arith, length-replicate {A = ℕ} n 0)) ∙ getD-replicate n j 0 0 g)

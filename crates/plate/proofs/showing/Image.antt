@@ -9,7 +9,6 @@ use borrow.Author.Count.{below-more}
 use lib.ListN.{length, getD}
 use lib.Seq.{ext-getD}
 use Rattle.kernels.specs.Fixed.{planesEach, margin}
-use Rattle.kernels.specs.Choice.{within}
 use Rattle.kernels.specs.Sum.{sum, Plane, Planes, running, down, finish}
 use Rattle.kernels.specs.Rounding.{shownValue, shownMatte}
 use Rattle.plate.specs.Fixed.{scratchPlanes}
@@ -17,7 +16,7 @@ use Rattle.plate.specs.Layout.{Size, wide, high, cell, places, columnOf,
 use Rattle.plate.specs.Lent.{State, views}
 use Rattle.plate.specs.Refusal.{Accepted, showCheck}
 use Rattle.plate.specs.Calls.{zeros, listTo, stored, sumAt, shown, answerOf, showBy}
-use Rattle.plate.specs.code.Passes.{Picture, planesIn, slopeSums, downFrom, sumsEnd, marksEnd, matteAfter, SummedTo}
+use Rattle.plate.specs.code.Passes.{Picture, planesIn, slopeSums, downFrom, sumsEnd, matteAfter, SummedTo}
 use Rattle.plate.specs.code.Showing.{Image, lightPicture, BothIn, BothTo, BothSummed, RowShown, sumIn, ShownTo, ShowReady}
 use Rattle.plate.proofs.checks.Accepted.{show-accepted}
 use Rattle.plate.proofs.numbers.Lists.{length-listTo, getD-listTo}
@@ -28,7 +27,7 @@ finish-is : (m : Planes) (x y : ℕ) → sum (slopeSums m x) (y + 1) ≡ finish 
 unfolding finish slopeSums down running
 finish-is m x y = rw (add-one y)
 
-finished-at : (p : Picture) (m s : List ℕ) (y x j : ℕ) → SummedTo p m s (y + 1) → x < p .columns → j ≡ downFrom p + x
+pub finished-at : (p : Picture) (m s : List ℕ) (y x j : ℕ) → SummedTo p m s (y + 1) → x < p .columns → j ≡ downFrom p + x
     → getD s j 0 ≡ finish (planesIn p m) x y % 2 ^ 64
 finished-at p m s y x j to l e =
     rw e (to .finished x l ∙ ap (λ (v : ℕ). v % 2 ^ 64) (finish-is (planesIn p m) x y))
@@ -108,7 +107,7 @@ ready-both z light m s v o e r =
     })
 
 -- the planes of a picture, from plane p on
-stored-is : (z : Size) (picture : Picture) (m : List ℕ) (p : ℕ) → picture .wide ≡ wide z → picture .high ≡ high z
+pub stored-is : (z : Size) (picture : Picture) (m : List ℕ) (p : ℕ) → picture .wide ≡ wide z → picture .high ≡ high z
     → picture .marks ≡ p * (wide z * high z) → stored z m p ≡ planesIn picture m
 unfolding stored planesIn
 stored-is z picture m p e f g =

@@ -1,7 +1,7 @@
 -- A picture's sums, one row further.
 use mathlib.Core.Path.{_≡_, refl, sym, ap, _∙_}
 use mathlib.Core.List.{List}
-use Prim.Native.Nat.{ℕ, zero, suc, _+_, _*_, _-_, _%_, _^_, _<_, _≤_}
+use Prim.Native.Nat.{ℕ, zero, suc, _+_, _*_, _%_, _^_, _<_, _≤_}
 use native.Mathlib.Omega.{arith}
 use native.Mathlib.Nat.{mod-mod}
 use native.Mathlib.Numerals.{add-one}
@@ -29,7 +29,7 @@ plane-below p m d x y b =
     if-within (suc x) (p .wide) _ 0 (λ a. within-no (suc y) (p .high) _ (omega arith)) (λ a. refl)
 
 -- THE BOX PLANES
-sum-cong-lt : (f g : Row) (n : ℕ) → ((k : ℕ) → k < n → f k % 2 ^ 64 ≡ g k % 2 ^ 64) → sum f n % 2 ^ 64 ≡ sum g n % 2 ^ 64
+pub sum-cong-lt : (f g : Row) (n : ℕ) → ((k : ℕ) → k < n → f k % 2 ^ 64 ≡ g k % 2 ^ 64) → sum f n % 2 ^ 64 ≡ sum g n % 2 ^ 64
 unfolding sum
 sum-cong-lt f g zero h = refl
 sum-cong-lt f g (suc n) h = cong-add _ _ _ _ (sum-cong-lt f g n (λ k l. h k (omega arith))) (h n (omega arith))
@@ -142,7 +142,6 @@ module _ (p : Picture) (m s s' : List ℕ) (y : ℕ) (ready : RowReady p s m y) 
       (rising-one-step p y)
       (λ r x g l e. absurd (omega arith))
       (λ r g l. kept _ (away-rising-one p _ here _ (omega arith) (omega arith) (rising-one-later p y r g)))
-      (omega arith)
       (λ i l. new .done 4 i (omega arith) l ∙ rw (mark riseOne i l))
       (ready .to .rising-one)
 
@@ -159,7 +158,6 @@ module _ (p : Picture) (m s s' : List ℕ) (y : ℕ) (ready : RowReady p s m y) 
       let q = in-place p r (omega arith) in
       kept _ (away-rising-two p _ here _ (omega (arith, q .rising-two)) (omega (arith, q .rising-two-end))
       (rising-two-later p y r g l)))
-      (omega arith)
       (λ i l. new .done 5 i (omega arith) l ∙ rw (mark riseTwo i l))
       (ready .to .rising-two)
 

@@ -1,15 +1,24 @@
 -- The rising lines take their marks, row by row from the bottom; then the picture's sums are ready for the first row.
 use mathlib.Core.Path.{_≡_, refl, _∙_}
 use mathlib.Core.List.{List}
-use Prim.Native.Nat.{ℕ, _+_, _*_, _-_, _<_, _≤_}
+use Prim.Native.Nat.{ℕ, _+_, _<_, _≤_}
 use native.Mathlib.Omega.{arith}
 use lib.ListN.{length, getD}
 use borrow.Author.Count.{below-none, below-more}
 use Rattle.kernels.specs.Sum.{sum}
-use Rattle.plate.specs.code.Passes.{Picture, riseTwo, riseOne, fallOne, fallTwo, planesIn, fallingOneAt, fallingTwoAt, risingOneFrom, risingTwoFrom, risingOneAt, risingTwoAt, downFrom, startsAt, RowLaid, rowWith, rowStart, risingCell, RisingLines, LayReady, Summed}
+use Rattle.plate.specs.code.Passes.{Picture, riseTwo, riseOne, fallOne, fallTwo, planesIn, fallingOneAt, fallingTwoAt, risingOneFrom, risingTwoFrom, risingOneAt, risingTwoAt, downFrom, startsAt, RowLaid, rowWith, rowStart, risingCell, RisingLines, PictureIn, OnlySums, Summed, sumsEnd}
 use Rattle.plate.proofs.showing.Starts.{Out, in-place, InPlace, rising-one-step, rising-two-step, rising-one-later, rising-two-later, rising-two-earlier, rising-two-other}
 use Rattle.plate.proofs.showing.SlopeLines.{falling-start, rising-start, rising-laid}
 use Rattle.plate.proofs.showing.NextRow.{mark-is, plane-below}
+
+-- in a scratch that is as long
+pub picture-on : (p : Picture) (s m : List ℕ) → PictureIn p s m → (s1 : List ℕ) → length s1 ≡ length s → PictureIn p s1 m
+picture-on p s m fits s1 e = omega arith
+
+-- there is room for a picture's sums, and they are 0
+pub record LayReady (p : Picture) (s m : List ℕ) : Type 0 where
+  pub fits : PictureIn p s m
+  pub clear : (j : ℕ) → p .sums ≤ j → j < sumsEnd p → getD s j 0 ≡ 0
 
 -- the rows from y on are laid
 pub record LaidFrom (p : Picture) (m s₀ s : List ℕ) (y : ℕ) : Type 0 where
@@ -114,3 +123,16 @@ module _ (p : Picture) (m s₀ s : List ℕ) (ready : LayReady p s₀ m) (all : 
               finished = λ x l. all .after _ (omega arith) ∙ ready .clear _ (omega arith) (omega arith);
             };
       }
+
+-- and so from a scratch that the clearing changed nowhere else
+pub laid-from : (p : Picture) (m s₀ s₁ s : List ℕ) → OnlySums p s₀ s₁ → Summed p m s₁ s 0 → Summed p m s₀ s 0
+laid-from p m s₀ s₁ s cleared all =
+    record {
+      only =
+          record {
+            same = all .only .same ∙ cleared .same;
+            before = λ j l. all .only .before j l ∙ cleared .before j l;
+            after = λ j l. all .only .after j l ∙ cleared .after j l;
+          };
+      to = all .to;
+    }

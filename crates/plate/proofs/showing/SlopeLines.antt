@@ -35,7 +35,7 @@ from-above-left k f y = refl
 -- before the first row
 pub falling-start : (k n h : ℕ) (o : ℕ → ℕ) (f : Plane) (s : List ℕ)
     → ((r x : ℕ) → r < k → x < n → getD s (o r + x) 0 ≡ 0)
-    → ((r : ℕ) → k ≤ r → r < h → getD s (o r) 0 ≡ 0)
+    → ((r : ℕ) → k ≤ r → r < h + k → getD s (o r) 0 ≡ 0)
     → FallingLines k n h o f s 0
 falling-start k n h o f s z q =
     record {
@@ -43,10 +43,10 @@ falling-start k n h o f s z q =
       fresh = λ r a b. q r (omega arith) b;
     }
 
-pub falling-next : (k n h : ℕ) (o : ℕ → ℕ) (f : Plane) (s s' : List ℕ) (y : ℕ) → 0 < k → y + k < h → o (y + k) + 1 ≡ o y
+pub falling-next : (k n h : ℕ) (o : ℕ → ℕ) (f : Plane) (s s' : List ℕ) (y : ℕ) → 0 < k → y < h → o (y + k) + 1 ≡ o y
     → ((i : ℕ) → i < n → getD s' (o y + i) 0 ≡ (getD s (o y + i) 0 + f i y) % 2 ^ 64)
     → ((r x : ℕ) → y < r → r < y + k → x < n → getD s' (o r + x) 0 ≡ getD s (o r + x) 0)
-    → ((r : ℕ) → y + k ≤ r → r < h → getD s' (o r) 0 ≡ getD s (o r) 0)
+    → ((r : ℕ) → y + k ≤ r → r < h + k → getD s' (o r) 0 ≡ getD s (o r) 0)
     → FallingLines k n h o f s y → FallingLines k n h o f s' (y + 1)
 falling-next k n h o f s s' y pos low step new near far old =
     record {
@@ -59,7 +59,7 @@ falling-next k n h o f s s' y pos low step new near far old =
     last : (x : ℕ) → x < n → getD s' (o (y + k) + x) 0 ≡ fromAbove k f x (y + k) % 2 ^ 64
     last zero e =
         let q : o (y + k) + 0 ≡ o (y + k) = omega arith in
-        rw (q, from-above-left k f (y + k)) (far (y + k) (omega arith) low ∙ old .fresh (y + k) (omega arith) low)
+        rw (q, from-above-left k f (y + k)) (far (y + k) (omega arith) (omega arith) ∙ old .fresh (y + k) (omega arith) (omega arith))
     last (suc x) e =
         let q : o (y + k) + suc x ≡ o y + x = omega arith in
         rw (q, from-above-next k f x y)
@@ -104,7 +104,7 @@ module _ (h k : ℕ) (f : Plane) (z : (x y : ℕ) → h ≤ y → f x y ≡ 0) w
 
   module _ (n : ℕ) (o : ℕ → ℕ) (s s' : List ℕ) (y : ℕ) (some : 0 < n) (pos : 0 < k) (low : y < h) (step : o (y + k) ≡ o y + 1)
       (near : (r x : ℕ) → y < r → r < y + k → x < n → getD s' (o r + x) 0 ≡ getD s (o r + x) 0)
-      (far : (r : ℕ) → y + k ≤ r → r < h → getD s' (o r + (n - 1)) 0 ≡ getD s (o r + (n - 1)) 0) where
+      (far : (r : ℕ) → y + k ≤ r → r < h + k → getD s' (o r + (n - 1)) 0 ≡ getD s (o r + (n - 1)) 0) where
     -- a row's marks laid on, from the bottom upwards
     pub rising-laid : getD s (o y) 0 ≡ 0
         → ((i : ℕ) → i < n → getD s' (o y + i) 0 ≡ (getD s (o y + i) 0 + f i y) % 2 ^ 64)
@@ -129,10 +129,9 @@ module _ (h k : ℕ) (f : Plane) (z : (x y : ℕ) → h ≤ y → f x y ≡ 0) w
             ∙ rw (q, from-below-next x y low) (omega (arith, old .brings (y + k) x (omega arith) (omega arith) (omega arith)))
 
     -- a row's marks taken off, from the top downwards
-    pub rising-next : y + k < h
-        → ((i : ℕ) → i < n → getD s' (o y + i) 0 ≡ (getD s (o y + i) 0 + (2 ^ 64 - 1) * f i y) % 2 ^ 64)
+    pub rising-next : ((i : ℕ) → i < n → getD s' (o y + i) 0 ≡ (getD s (o y + i) 0 + (2 ^ 64 - 1) * f i y) % 2 ^ 64)
         → RisingLines k n h o f s y → RisingLines k n h o f s' (y + 1)
-    rising-next in-plane new old =
+    rising-next new old =
         record {
           brings = λ r x a b e. by-lt r (y + k)
               (λ l. near r x (omega arith) l e ∙ old .brings r x (omega arith) l e)
@@ -150,4 +149,4 @@ module _ (h k : ℕ) (f : Plane) (z : (x y : ℕ) → h ≤ y → f x y ≡ 0) w
             (old .brings y (suc x) (omega arith) (omega arith) l ∙ ap (λ (v : ℕ). v % 2 ^ 64) (from-below-next x y low))))
             (λ l.
             let q : x ≡ n - 1 = omega arith in
-            rw q (far (y + k) (omega arith) in-plane ∙ old .later (y + k) (omega arith) in-plane))
+            rw q (far (y + k) (omega arith) (omega arith) ∙ old .later (y + k) (omega arith) (omega arith)))

@@ -167,10 +167,10 @@ module _ (p : Picture) (row : ℕ) where
   rising-two-step = rw (two-on row) (omega arith)
 
   -- a line that starts at a later row is in no earlier row
-  pub falling-one-later : (r : ℕ) → row + 1 ≤ r → r < p .high → Out (fallingOneAt p row) (p .columns) (fallingOneAt p r)
+  pub falling-one-later : (r : ℕ) → row + 1 ≤ r → r < p .high + 1 → Out (fallingOneAt p row) (p .columns) (fallingOneAt p r)
   falling-one-later r g l i k e = omega arith
 
-  pub falling-two-later : (r : ℕ) → row + 2 ≤ r → r < p .high → Out (fallingTwoAt p row) (p .columns) (fallingTwoAt p r)
+  pub falling-two-later : (r : ℕ) → row + 2 ≤ r → r < p .high + 2 → Out (fallingTwoAt p row) (p .columns) (fallingTwoAt p r)
   falling-two-later r g l i k e =
       by-side row (twoLines p)
       (λ u v. by-side r (twoLines p) (λ c q. omega arith) (λ c q. omega arith))
@@ -179,7 +179,7 @@ module _ (p : Picture) (row : ℕ) where
   pub rising-one-later : (r : ℕ) → row + 1 ≤ r → Out (risingOneAt p row) (p .columns) (risingOneAt p r + (p .columns - 1))
   rising-one-later r g i k e = omega arith
 
-  pub rising-two-later : (r : ℕ) → row + 2 ≤ r → r < p .high
+  pub rising-two-later : (r : ℕ) → row + 2 ≤ r → r < p .high + 2
       → Out (risingTwoAt p row) (p .columns) (risingTwoAt p r + (p .columns - 1))
   rising-two-later r g l i k e =
       by-side row (twoLines p)
@@ -195,7 +195,7 @@ module _ (p : Picture) (row : ℕ) where
       (λ u v. by-side r (twoLines p) (λ c q. omega arith) (λ c q. omega arith))
 
   -- even and odd rows have lines of their own
-  pub falling-two-other : (r x : ℕ) → r ≡ row + 1 → r < p .high → x < p .columns
+  pub falling-two-other : (r x : ℕ) → r ≡ row + 1 → r < p .high + 2 → x < p .columns
       → Out (fallingTwoAt p row) (p .columns) (fallingTwoAt p r + x)
   falling-two-other r x g l f i k e =
       by-side row (twoLines p)

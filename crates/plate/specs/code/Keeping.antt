@@ -25,13 +25,13 @@ RowKept scratch light matte first second width old new =
     Written 2 width (rowStart first second) (λ c x. getD scratch (rowStart light matte c + x) 0) old new
 
 -- THE IMAGE
--- the rows of both above the image are summed; it ends at the last column summed, two rows or more below it are in the planes,
--- and there is room for its sums
+-- the rows of both above the image are summed; it ends at the last column summed, its rows are in the planes, and there is
+-- room for its sums
 pub record KeepReady (light : Picture) (image : Image) (scratch planes sums : List ℕ) : Type 0 where
   pub fits : BothIn light scratch planes
   pub to : BothTo light planes scratch (image .first)
   pub columns-are : image .first + image .width ≡ light .columns
-  pub rows-in : image .first + image .height + 2 ≤ light .high
+  pub rows-in : image .first + image .height ≤ light .high
   pub sums-are : length sums ≡ 2 * (image .width * image .height)
 
 -- the sums of its first rows are kept: light's by place, and matte's after all of light's

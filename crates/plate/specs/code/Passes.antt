@@ -271,7 +271,7 @@ fromAbove k plane (suc x) y = within k (y + 0) (slope k 0 plane x (y + 0 - k))
 pub record FallingLines (k columns high : ℕ) (start : ℕ → ℕ) (plane : Plane) (scratch : List ℕ) (row : ℕ) : Type 0 where
   pub brings : (y x : ℕ) → row ≤ y → y < row + k → x < columns → getD scratch (start y + x) 0 ≡ fromAbove k plane x y % 2 ^ 64
   -- those that start later
-  pub fresh : (y : ℕ) → row + k ≤ y → y < high → getD scratch (start y) 0 ≡ 0
+  pub fresh : (y : ℕ) → row + k ≤ y → y < high + k → getD scratch (start y) 0 ≡ 0
 
 -- the sum of a line that goes k rows up a column, 0 below the plane
 unfoldable pub fromBelow : ℕ → ℕ → Plane → Plane
@@ -282,7 +282,7 @@ pub record RisingLines (k columns high : ℕ) (start : ℕ → ℕ) (plane : Pla
   pub brings : (y x : ℕ) → row ≤ y → y < row + k → x < columns
       → getD scratch (start y + x) 0 ≡ fromBelow high k plane x y % 2 ^ 64
   -- those that end later, at their last column
-  pub later : (y : ℕ) → row + k ≤ y → y < high
+  pub later : (y : ℕ) → row + k ≤ y → y < high + k
       → getD scratch (start y + (columns - 1)) 0 ≡ fromBelow high k plane (columns - 1) y % 2 ^ 64
 
 -- the rows of a picture above a row are summed
@@ -307,15 +307,10 @@ pub record PictureIn (picture : Picture) (scratch planes : List ℕ) : Type 0 wh
   pub sums-in : sumsEnd picture ≤ length scratch
   pub marks-in : marksEnd picture ≤ length planes
 
--- and its sums are 0
-pub record LayReady (picture : Picture) (scratch planes : List ℕ) : Type 0 where
-  pub fits : PictureIn picture scratch planes
-  pub clear : (j : ℕ) → picture .sums ≤ j → j < sumsEnd picture → getD scratch j 0 ≡ 0
-
--- and the row, which is not one of the last two, comes next
+-- and the row comes next
 pub record RowReady (picture : Picture) (scratch planes : List ℕ) (row : ℕ) : Type 0 where
   pub fits : PictureIn picture scratch planes
-  pub low : row + 2 < picture .high
+  pub low : row < picture .high
   pub to : SummedTo picture planes scratch row
 
 -- nothing but its sums is changed

@@ -28,20 +28,20 @@ pub record BothIn (light : Picture) (scratch planes : List ℕ) : Type 0 where
   pub sums-in : sumsEnd (matteAfter light) ≤ length scratch
   pub marks-in : marksEnd (matteAfter light) ≤ length planes
 
--- and the rows above a row, which is none of the last two
+-- and so many rows
 pub record AboveReady (light : Picture) (scratch planes : List ℕ) (rows : ℕ) : Type 0 where
   pub fits : BothIn light scratch planes
-  pub low : rows + 2 < light .high
+  pub low : rows ≤ light .high
 
 -- the rows of both above a row are summed
 pub record BothTo (light : Picture) (planes scratch : List ℕ) (row : ℕ) : Type 0 where
   pub light-to : SummedTo light planes scratch row
   pub matte-to : SummedTo (matteAfter light) planes scratch row
 
--- and the row, which is not one of the last two, comes next
+-- and the row comes next
 pub record BothReady (light : Picture) (scratch planes : List ℕ) (row : ℕ) : Type 0 where
   pub fits : BothIn light scratch planes
-  pub low : row + 2 < light .high
+  pub low : row < light .high
   pub to : BothTo light planes scratch row
 
 pub record BothSummed (light : Picture) (planes old new : List ℕ) (row : ℕ) : Type 0 where
@@ -61,12 +61,12 @@ pub record RowShown (scratch : List ℕ) (light matte first width : ℕ) (values
   pub in-values : Written 1 width (λ c. first) (λ c x. shownValue (getD scratch (light + x) 0) (getD scratch (matte + x) 0)) values₀ values
   pub in-mattes : Written 1 width (λ c. first) (λ c x. shownMatte (getD scratch (matte + x) 0)) mattes₀ mattes
 
--- the rows of both above the image are summed; it ends at the last column summed, and two rows or more below it are in the planes
+-- the rows of both above the image are summed; it ends at the last column summed, and its rows are in the planes
 pub record ImageReady (light : Picture) (image : Image) (scratch planes values mattes : List ℕ) : Type 0 where
   pub fits : BothIn light scratch planes
   pub to : BothTo light planes scratch (image .first)
   pub columns-are : image .first + image .width ≡ light .columns
-  pub rows-in : image .first + image .height + 2 ≤ light .high
+  pub rows-in : image .first + image .height ≤ light .high
   pub values-are : length values ≡ image .width * image .height
   pub mattes-are : length mattes ≡ image .width * image .height
 

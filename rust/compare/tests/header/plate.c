@@ -1,5 +1,5 @@
-/* The plate of the paper's section Records, by the C interface, then the same puts with kept
- * pictures. Compiled as C and as C++. */
+/* The plate of the paper's section Records, by the C interface, with what it adds up to; then
+ * the same puts with kept pictures. Compiled as C and as C++. */
 #include "lens.h"
 
 #include <stdio.h>
@@ -31,6 +31,14 @@ static void show(lens_state state)
 {
     print_pictures("show", lens_show(state, planes, 14 * P, scratch, 3 * P, values, W * H,
                                      mattes, W * H));
+}
+
+/* With a scratch of a length of the caller's. */
+static void total(lens_state state, size_t scratch_len)
+{
+    lens_totals totals = lens_total(state, planes, 14 * P, scratch, scratch_len);
+    printf("total %u: %.0f %.0f\n", (unsigned)totals.answer.number, (double)totals.matte,
+           (double)totals.light);
 }
 
 static void show_kept(lens_state state)
@@ -78,8 +86,11 @@ int main(void)
     state = put(state, 0, 40, 0);
     state = put(state, 0, 40, 0);
     show(state);
+    total(state, 3 * P);
     state = lens_undo(state, planes, 14 * P, pixels, W * H, undo_log, LOG).state;
     show(state);
+    total(state, 3 * P);
+    total(state, 3 * P - 1);
     state = fill(state, depths);
     depths[2] = 20000;
     state = fill(state, depths);

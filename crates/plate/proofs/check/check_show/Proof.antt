@@ -1,15 +1,24 @@
--- The sizes' refusal comes first; past it they are lawful, and the lengths' check is the rest.
-use mathlib.Core.Path.{sym, _∙_}
+-- What a total checks comes first; past it the sizes are lawful, and each test is the definition's.
+use mathlib.Core.Path.{_≡_, sym, _∙_}
+use native.Mathlib.Omega.{arith}
 use borrow.Author.Needs.{needs}
-use Rattle.plate.specs.Refusal.{Accepted, showCheck}
+use Rattle.plate.specs.Refusal.{Accepted, totalCheck, viewsCheck, showCheck, refuseIf}
+use Rattle.plate.proofs.checks.Conditions.{tests}
 use Rattle.plate.proofs.checks.Passed.{sizes-passed}
-use Rattle.plate.proofs.checks.Chains.{sizes-before}
+use Rattle.plate.proofs.checks.Chains.{total-before}
 use Rattle.plate.proofs.check.check_show.Statement.{statement}
 use Rattle.plate.proofs.check.check_show.Tie as tie
-use Rattle.plate.specs.Lent.{sized}
 
-check-sizes-requires : tie.Need-check-sizes-requires
-check-sizes-requires c κs = search needs
+abbrev start : tie.After-check-total → tie.Start
+start c = c .before .before
+
+-- the first check passed
+passed : (c : tie.After-enum-told)
+    → let a = start (c .before .before) .args in totalCheck (a .state .size) (a .planes) (a .scratch) ≡ Accepted
+passed c = sym (c .before .before .check-total .ensures) ∙ c .enum-told .given .1
+
+check-total-requires : tie.Need-check-total-requires
+check-total-requires c κs = search needs
 
 enum-told : tie.Need-enum-told
 enum-told c = search needs
@@ -18,27 +27,48 @@ enum-told-2 : tie.Need-enum-told-2
 enum-told-2 c = search needs
 
 returns : tie.Need-returns
-unfolding showCheck
+unfolding showCheck viewsCheck
 returns c =
-    let sized = c .before .before in
-    rw (sizes-before (sized .before .before .args .state .size) Accepted _, ← sized .check-sizes .ensures, c .enum-told2 .given .1)
+    let summed = c .before .before in
+    let a = start summed .args in
+    rw (total-before (a .state .size) (a .planes) (a .scratch) _, ← summed .check-total .ensures, c .enum-told2 .given .1)
 
-check-views-requires : tie.Need-check-views-requires
-check-views-requires c κs =
-    sizes-passed _ Accepted (sym (c .before .before .check-sizes .ensures) ∙ c .enum-told .given .1) .0
+mul-places : tie.Need-mul-places
+unfolding totalCheck
+mul-places c =
+    let told = c .before in
+    omega (arith, sizes-passed _ _ (passed told) .0 .places-top)
 
 returns-2 : tie.Need-returns-2
-unfolding showCheck
+unfolding showCheck viewsCheck refuseIf
 returns-2 c =
-    let sized = c .before .before .before in
-    rw (
-      sizes-before (sized .before .before .args .state .size) Accepted _,
-      ← sized .check-sizes .ensures,
-      c .before .enum-told .given .1,
-    )
-    (c .check-views .ensures)
+    let told = c .before .before in
+    let a = start (told .before .before) .args in
+    rw (total-before (a .state .size) (a .planes) (a .scratch) _, passed told) (search tests)
+
+returns-3 : tie.Need-returns-3
+unfolding showCheck viewsCheck refuseIf
+returns-3 c =
+    let told = c .before .before .before in
+    let a = start (told .before .before) .args in
+    rw (total-before (a .state .size) (a .planes) (a .scratch) _, passed told) (search tests)
+
+returns-4 : tie.Need-returns-4
+unfolding showCheck viewsCheck refuseIf
+returns-4 c =
+    let told = c .before .before .before in
+    let a = start (told .before .before) .args in
+    rw (total-before (a .state .size) (a .planes) (a .scratch) _, passed told) (search tests)
 
 pub check-show-spec : {M : Type 1} → statement M
 check-show-spec =
     tie.close
-    (tie.spec check-sizes-requires enum-told enum-told-2 returns check-views-requires returns-2)
+    (tie.spec
+    check-total-requires
+    enum-told
+    enum-told-2
+    returns
+    mul-places
+    returns-2
+    returns-3
+    returns-4)

@@ -1,0 +1,142 @@
+-- Light is neither made nor lost: every kernel lies whole inside the padded plane, so what a plate holds in all is what its pixels
+-- had.
+use mathlib.Core.Path.{_≡_, ap, _∙_}
+use mathlib.Core.List.{List}
+use Prim.Native.Nat.{ℕ, _*_, _/_, _%_, _^_, _≤_, _<_}
+use native.Mathlib.Omega.{arith}
+use native.Mathlib.Nat.{mul-comm, mod-lt, mod-eq-of-lt, le-trans, le-refl}
+use lib.ListN.{getD, length}
+use Rattle.kernels.specs.Fixed.{unit, planesEach, opacityTop, valueTop}
+use Rattle.kernels.specs.Sum.{sum, dist}
+use Rattle.kernels.proofs.numbers.Products.{product-le}
+use Rattle.kernels.proofs.sums.FiniteSums.{sum-ext, sum-ext-lt, sum-mul, sum-swap, sum-cong}
+use Rattle.plate.specs.Fixed.{planesInAll, scratchPlanes, placesTop}
+use Rattle.plate.specs.Layout.{Size, wide, high, padded, places, columnOf, rowOf}
+use Rattle.plate.specs.Lent.{stateOf}
+use Rattle.plate.specs.Word.{Pixel, Entry}
+use Rattle.plate.specs.Kernel.{weightOf}
+use Rattle.plate.specs.Refusal.{Accepted, totalCheck}
+use Rattle.plate.specs.Calls.{answerOf, zeros}
+use Rattle.plate.specs.Plain.{pixelAt, lightOf, matteOf, gridCell}
+use Rattle.plate.specs.Total.{heldFrom, totalled, totalsOf, totalBy, totalCall}
+use Rattle.plate.specs.Balance.{hadBy, Balances}
+use Rattle.plate.specs.code.Bounds.{LawfulSize, Fits}
+use Rattle.plate.proofs.checks.Rows.{check-passes}
+use Rattle.plate.proofs.checks.Conditions.{total-checks}
+use Rattle.plate.proofs.checks.Passed.{sizes-pass}
+use Rattle.plate.proofs.numbers.Extents.{row-of}
+use Rattle.plate.proofs.laying.Cells.{reach-under}
+use Rattle.plate.proofs.demands.Squares.{weights-on}
+use Rattle.plate.proofs.demands.PlainSums.{sum-le, InPicture, in-light, in-matte, cellWeight, cell-wrapped}
+use Rattle.plate.proofs.demands.Mirror.{Mirrored}
+use Rattle.plate.proofs.demands.Demand.{opened}
+
+-- A KERNEL IN THE PADDED PLANE
+turned : (a b : ℕ) → dist a b ≡ dist b a
+turned a b = omega arith
+
+-- over all padded cells a lawful pixel's weights are the whole
+weights-in : (z : Size) (q : Pixel) (j : ℕ) → LawfulSize z → Fits (z .reach) q → j < places z
+    → sum (λ y. sum (λ x. cellWeight z q j x y) (wide z)) (high z) ≡ unit
+weights-in z q j law fits h =
+    let u = reach-under (z .reach) (q .shape) (q .radius) (fits .radius-fits) in
+    let across : j % z .width < z .width = mod-lt j (law .width-some) in
+    let down : j / z .width < z .height = row-of j (z .width) (z .height) (law .width-some) h in
+    sum-swap (λ y x. cellWeight z q j x y) (high z) (wide z)
+    ∙ sum-ext _ _ (λ x. sum-ext _ _ (λ y i. weightOf q (turned x (columnOf z j) i) (turned y (rowOf z j) i)) (high z)) (wide z)
+    ∙ weights-on q (columnOf z j) (rowOf z j) (wide z) (high z) (omega arith) (omega arith) (omega arith) (omega arith)
+
+-- WHAT A PLATE HOLDS
+module _ (z : Size) (planes : List ℕ) (grid : List Pixel) (law : LawfulSize z)
+    (cells : (k : ℕ) → k < planesInAll * padded z → getD planes k 0 ≡ gridCell z grid k)
+    (fits : (i : ℕ) → Fits (z .reach) (pixelAt grid i))
+    (p : ℕ) (low : p ≤ planesEach) (worth : Pixel → ℕ) (from : InPicture z p worth)
+  where
+    -- what the pixel at a place is worth, and what it adds to a padded cell for each of it
+    worthAt : ℕ → ℕ
+    worthAt j = worth (pixelAt grid j)
+
+    adds : ℕ → ℕ → ℕ → ℕ
+    adds j x y = cellWeight z (pixelAt grid j) j x y
+
+    -- one pixel, over all padded cells
+    one-whole : (j : ℕ) → j < places z → sum (λ y. sum (λ x. worthAt j * adds j x y) (wide z)) (high z) ≡ unit * worthAt j
+    unfolding adds
+    one-whole j h =
+        sum-ext _ _ (λ y. sum-mul (worthAt j) (λ x. adds j x y) (wide z)) (high z)
+        ∙ sum-mul (worthAt j) (λ y. sum (λ x. adds j x y) (wide z)) (high z)
+        ∙ ap (λ (n : ℕ). worthAt j * n) (weights-in z (pixelAt grid j) j law (fits j) h)
+        ∙ mul-comm (worthAt j) unit
+
+    -- all pixels: their cells may be summed pixel by pixel
+    all-whole : sum (λ y. sum (λ x. sum (λ j. worthAt j * adds j x y) (places z)) (wide z)) (high z) ≡ hadBy z grid worth
+    unfolding hadBy worthAt
+    all-whole =
+        sum-ext _ _ (λ y. sum-swap (λ x j. worthAt j * adds j x y) (wide z) (places z)) (high z)
+        ∙ sum-swap (λ y j. sum (λ x. worthAt j * adds j x y) (wide z)) (high z) (places z)
+        ∙ sum-ext-lt _ (λ j. unit * worthAt j) (places z) one-whole
+        ∙ sum-mul unit worthAt (places z)
+
+    held-wrapped : heldFrom z planes p ≡ hadBy z grid worth % 2 ^ 64
+    unfolding heldFrom worthAt adds
+    held-wrapped =
+        sum-cong _ _
+        (λ y. sum-cong _ _ (λ x. cell-wrapped z planes grid law cells fits p low worth from x y) (wide z)) (high z)
+        ∙ ap (λ (n : ℕ). n % 2 ^ 64) all-whole
+
+-- NOTHING WRAPS
+-- "W × H at most 2,097,152", each worth at most c
+had-le : (z : Size) (grid : List Pixel) (worth : Pixel → ℕ) (c : ℕ) → LawfulSize z → ((j : ℕ) → worth (pixelAt grid j) ≤ c)
+    → hadBy z grid worth ≤ unit * (placesTop * c)
+unfolding hadBy
+had-le z grid worth c law top =
+    let all = le-trans (sum-le _ c (places z) top) (product-le (places z) c placesTop c (law .places-top) (le-refl c)) in
+    omega (arith, all)
+
+had-below : (z : Size) (grid : List Pixel) → LawfulSize z → ((j : ℕ) → Fits (z .reach) (pixelAt grid j))
+    → (hadBy z grid matteOf < 2 ^ 64) × (hadBy z grid lightOf < 2 ^ 64)
+had-below z grid law fits = (
+  omega (arith, had-le z grid matteOf opacityTop law byte),
+  omega (arith, had-le z grid lightOf (valueTop * opacityTop) law (λ j. product-le _ _ valueTop opacityTop (fits j .value-fits) (byte j))),
+)
+  where
+    byte : (j : ℕ) → pixelAt grid j .opacity ≤ opacityTop
+    byte j = omega (arith, fits j .opacity-fits)
+
+-- THE TOTAL
+module _ (z : Size) (room : ℕ) (planes : List ℕ) (grid : List Pixel) (pile : List Entry) (kept : Mirrored z room planes grid pile) where
+  below : (hadBy z grid matteOf < 2 ^ 64) × (hadBy z grid lightOf < 2 ^ 64)
+  below = had-below z grid (kept .lawful) (kept .grid-fits)
+
+  light-held : heldFrom z planes 0 ≡ hadBy z grid lightOf
+  light-held =
+      held-wrapped z planes grid (kept .lawful) (kept .each-cell) (kept .grid-fits) 0 (omega arith) lightOf (in-light z (kept .lawful))
+      ∙ mod-eq-of-lt (below .1)
+
+  matte-held : heldFrom z planes planesEach ≡ hadBy z grid matteOf
+  matte-held =
+      held-wrapped z planes grid (kept .lawful) (kept .each-cell) (kept .grid-fits) planesEach (omega arith) matteOf
+      (in-matte z (kept .lawful))
+      ∙ mod-eq-of-lt (below .0)
+
+  -- it is refused for its scratch alone
+  accepts : (scratch : List ℕ) → length scratch ≡ scratchPlanes * padded z → totalCheck z (length planes) (length scratch) ≡ Accepted
+  unfolding totalCheck
+  accepts scratch e =
+      sizes-pass z _ (kept .lawful)
+      ∙ check-passes (total-checks z (length planes) (length scratch)) Accepted (kept .cells-count, e)
+
+  mirrored-total : (scratch : List ℕ) → length scratch ≡ scratchPlanes * padded z
+      → totalCall (stateOf z (length pile)) planes scratch
+      ≡ totalled (totalsOf (answerOf Accepted 0 (stateOf z (length pile))) (hadBy z grid matteOf) (hadBy z grid lightOf))
+      (zeros (length scratch))
+  unfolding totalCall totalBy
+  mirrored-total scratch e = rw (accepts scratch e, matte-held, light-held)
+
+pub balances : Balances
+balances z l calls scratch accepted right =
+    let room = length (l .log) in
+    let f = opened z l calls accepted in
+    let small = below z room (f .planes) (f .grid) (f .pile) (f .kept) in
+    rw (f .same-plate, f .same-book)
+    (mirrored-total z room (f .planes) (f .grid) (f .pile) (f .kept) scratch right, small .0, small .1)
