@@ -44,6 +44,6 @@ layGrid z g cells zero = cells
 layGrid z g cells (suc n) = layAll z (layGrid z g cells n) (pixelMarks z n (g n))
 
 -- all that a list of marks lays on a cell
-unfoldable pub total : Size → ℕ → List Mark → ℕ
-total z k [] = 0
-total z k (m ∷ ms) = same k (cellOf z m) (m .coefficient) + total z k ms
+unfoldable pub onCell : Size → ℕ → List Mark → ℕ
+onCell z k [] = 0
+onCell z k (m ∷ ms) = same k (cellOf z m) (m .coefficient) + onCell z k ms

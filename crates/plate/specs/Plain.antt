@@ -7,7 +7,7 @@ use Rattle.kernels.specs.Rounding.{shownValue, shownMatte}
 use Rattle.plate.specs.Layout.{Size, places}
 use Rattle.plate.specs.Word.{Pixel, empty}
 use Rattle.plate.specs.Kernel.{weightOf}
-use Rattle.plate.specs.Marks.{pixelMarks, total}
+use Rattle.plate.specs.Marks.{pixelMarks, onCell}
 use Rattle.plate.specs.Calls.{listTo}
 
 abbrev pub pixelAt : List Pixel → ℕ → Pixel
@@ -37,4 +37,4 @@ plainMattes z grid = listTo (λ i. shownMatte (plainSum z grid matteOf i)) (plac
 
 -- "The marks of a grid: at each cell of the planes, the sum, wrapped, of all marks that its pixels lay there."
 unfoldable pub gridCell : Size → List Pixel → ℕ → ℕ
-gridCell z grid k = sum (λ i. total z k (pixelMarks z i (pixelAt grid i))) (places z) % 2 ^ 64
+gridCell z grid k = sum (λ i. onCell z k (pixelMarks z i (pixelAt grid i))) (places z) % 2 ^ 64

@@ -32,7 +32,7 @@ use Rattle.plate.specs.code.Changing.{Changeable}
 use Rattle.plate.proofs.numbers.Extents.{place-within}
 use Rattle.plate.proofs.numbers.Lists.{length-listTo, getD-listTo, listTo-ext}
 use Rattle.plate.proofs.laying.Cells.{cell-lt, laid, laid-outside}
-use Rattle.plate.proofs.laying.LaidCells.{wrapped-low, length-lay, lay-wrapped, total-scaled}
+use Rattle.plate.proofs.laying.LaidCells.{wrapped-low, length-lay, lay-wrapped, on-cell-scaled}
 use Rattle.plate.proofs.mending.Reached.{not-reached}
 use Rattle.plate.proofs.demands.PlainSums.{LaidAs, InPicture, in-light, in-matte, stored-in, stored-out, stored-as, finish-laid}
 
@@ -93,7 +93,7 @@ exchanged-sum z planes i old new law size h fits fits' p low worth from j =
     gone-is : LaidAs z p off gone
     gone-is d x y g px py =
         rw (
-          total-scaled z (cell z (p + d) x y) (minus 1) (pixelMarks z i old),
+          on-cell-scaled z (cell z (p + d) x y) (minus 1) (pixelMarks z i old),
           scaled-at (minus 1) (laid z (worth old) i old) d x y,
           from i h old fits d x y g px py,
         )

@@ -15,7 +15,7 @@ use Rattle.plate.specs.Layout.{Size, cell, places, columnOf, rowOf}
 use Rattle.plate.specs.Word.{Pixel, empty, wordOf, Entry}
 use Rattle.plate.specs.Refusal.{Outcome, Accepted, Refused, inputsCheck, layerCheck, openCheck, fillCheck, fillFirst}
 use Rattle.plate.specs.Lent.{stateOf, Lent, lent, sizedAs, Inputs}
-use Rattle.plate.specs.Marks.{inBoth, pixelMarks, layGrid, total}
+use Rattle.plate.specs.Marks.{inBoth, pixelMarks, layGrid, onCell}
 use Rattle.plate.specs.Calls.{zeros, listTo, filled, fillBy, fillCall, openBy, openCall}
 use Rattle.plate.specs.Change.{knownShape}
 use Rattle.plate.specs.Plain.{gridCell}
@@ -59,7 +59,7 @@ laid-cell z g m k h =
     lay-grid-cell z g (zeros m) (places z) k (omega (arith, length-replicate {A = ℕ} m 0)) (rw (getD-zeros m k) (lit< tt))
     ∙ rw (getD-zeros m k, zero-add) (ap (λ (n : ℕ). n % 2 ^ 64)
     (sum-ext-lt _ _ (places z)
-    (λ i p. ap (λ (q : Pixel). total z k (pixelMarks z i q)) (sym (getD-listTo g (places z) i empty p)))))
+    (λ i p. ap (λ (q : Pixel). onCell z k (pixelMarks z i q)) (sym (getD-listTo g (places z) i empty p)))))
 
 module _ (z : Size) (room : ℕ) (planes : List ℕ) (grid : List Pixel) (pile : List Entry) (kept : Mirrored z room planes grid pile) where
   fill-done : (o : LensOf) (n : ℕ) (f : Inputs) → ((i : ℕ) → getD (f .opacities) i 0 < 256) → layerCheck o n f ≡ Accepted
@@ -125,8 +125,8 @@ module _ (z : Size) (room : ℕ) (planes : List ℕ) (grid : List Pixel) (pile :
 
 -- OPEN
 -- marks that are worth 0 lay nothing
-both-nothing : (z : Size) (k : ℕ) (ms : List Mark) → total z k (inBoth 0 0 ms) ≡ 0
-unfolding inBoth total
+both-nothing : (z : Size) (k : ℕ) (ms : List Mark) → onCell z k (inBoth 0 0 ms) ≡ 0
+unfolding inBoth onCell
 both-nothing z k [] = refl
 both-nothing z k (m ∷ ms) =
     omega (
@@ -136,7 +136,7 @@ both-nothing z k (m ∷ ms) =
       both-nothing z k ms,
     )
 
-pub empty-lays : (z : Size) (k i : ℕ) → total z k (pixelMarks z i empty) ≡ 0
+pub empty-lays : (z : Size) (k i : ℕ) → onCell z k (pixelMarks z i empty) ≡ 0
 unfolding pixelMarks
 empty-lays z k i = both-nothing z k (marks (empty .shape) 0 (columnOf z i) (rowOf z i))
 

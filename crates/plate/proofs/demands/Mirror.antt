@@ -12,7 +12,7 @@ use Rattle.plate.specs.Layout.{Size, padded, places}
 use Rattle.plate.specs.Word.{Pixel, wordOf, Entry, loggedAs}
 use Rattle.plate.specs.Refusal.{Refusal, LogEmpty, Outcome, Accepted, Refused, refuseIf, countCheck, emptyCheck, askCheck, putCheck, undoCheck, plateCheck}
 use Rattle.plate.specs.Lent.{stateOf, Lent, lent, sizedAs, Ask}
-use Rattle.plate.specs.Marks.{pixelMarks, total, exchanged}
+use Rattle.plate.specs.Marks.{pixelMarks, onCell, exchanged}
 use Rattle.plate.specs.Calls.{refused, putBy, putCall, undoBy, undoCall, changed}
 use Rattle.plate.specs.Change.{askedPlace, askedPixel, putOver, undoOver, undoEntry, putRead, undoRead, putReadBy, undoReadBy}
 use Rattle.plate.specs.Plain.{pixelAt, gridCell}
@@ -82,7 +82,7 @@ sum-set f g i (suc n) h p =
 
 -- what the pixel at a place lays on a cell
 laidOn : Size → List Pixel → ℕ → ℕ → ℕ
-laidOn z grid k i = total z k (pixelMarks z i (pixelAt grid i))
+laidOn z grid k i = onCell z k (pixelMarks z i (pixelAt grid i))
 
 changed-cell : (z : Size) (room : ℕ) (planes : List ℕ) (grid : List Pixel) (pile : List Entry) (i : ℕ) (new : Pixel)
     → Mirrored z room planes grid pile → i < places z → (k : ℕ) → k < planesInAll * padded z
@@ -92,7 +92,7 @@ changed-cell z room planes grid pile i new kept h k b =
     let after = set grid i new in
     let one : sum (laidOn z after k) (places z) + laidOn z grid k i ≡ sum (laidOn z grid k) (places z) + laidOn z after k i =
     sum-set (laidOn z grid k) (laidOn z after k) i (places z)
-    (λ j n. ap (λ (p : Pixel). total z k (pixelMarks z j p)) (sym (getD-set-other grid i j new _ n)))
+    (λ j n. ap (λ (p : Pixel). onCell z k (pixelMarks z j p)) (sym (getD-set-other grid i j new _ n)))
     h in
     let here : pixelAt after i ≡ new = getD-set-same grid i new _ (omega (arith, kept .grid-size)) in
     exchanged-cell z i (pixelAt grid i) new planes k (sum (laidOn z grid k) (places z)) (sum (laidOn z after k) (places z))

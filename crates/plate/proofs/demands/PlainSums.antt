@@ -17,7 +17,7 @@ use Rattle.kernels.proofs.marking.Kernel.{kernel}
 use Rattle.plate.specs.Layout.{Size, wide, high, padded, cell, places, columnOf, rowOf}
 use Rattle.plate.specs.Word.{Pixel}
 use Rattle.plate.specs.Kernel.{weightOf}
-use Rattle.plate.specs.Marks.{pixelMarks, total}
+use Rattle.plate.specs.Marks.{pixelMarks, onCell}
 use Rattle.plate.specs.Calls.{stored, sumAt}
 use Rattle.plate.specs.Plain.{pixelAt, lightOf, matteOf, weightAt, plainSum, gridCell}
 use Rattle.plate.specs.code.Bounds.{LawfulSize, Fits}
@@ -59,7 +59,7 @@ dist-padded a b R = omega arith
 -- in a picture's planes from p on, some marks of the planes are those of a list of marks
 abbrev pub LaidAs : Size → ℕ → List Mark → List Mark → Type 0
 LaidAs z p all own =
-    (d x y : ℕ) → d < planesEach → x < wide z → y < high z → total z (cell z (p + d) x y) all ≡ planesOf own d x y
+    (d x y : ℕ) → d < planesEach → x < wide z → y < high z → onCell z (cell z (p + d) x y) all ≡ planesOf own d x y
 
 -- and so a pixel's are those of its kernel, as often as it is worth there
 abbrev pub InPicture : Size → ℕ → (Pixel → ℕ) → Type 0

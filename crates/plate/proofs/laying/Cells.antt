@@ -16,7 +16,7 @@ use Rattle.kernels.specs.Facts.{Each, Near}
 use Rattle.kernels.proofs.drawing.MarkPlaces.{marks-near}
 use Rattle.plate.specs.Layout.{Size, wide, high, padded, cell, places, columnOf, rowOf}
 use Rattle.plate.specs.Word.{Pixel}
-use Rattle.plate.specs.Marks.{inBoth, pixelMarks, total}
+use Rattle.plate.specs.Marks.{inBoth, pixelMarks, onCell}
 use Rattle.plate.specs.Plain.{lightOf, matteOf}
 use Rattle.plate.specs.code.Bounds.{LawfulSize, Fits}
 use Rattle.kernels.specs.Fixed.{planesEach, margin}
@@ -111,26 +111,26 @@ module _ (z : Size) (light matte d x y : ℕ) (px : x < wide z) (py : y < high z
   one-mark p q w m a = same-cell z p x y q (m .column) (m .row) w px py (a .column-in) (a .row-in)
 
   -- of marks that are laid in light and in matte
-  light-total : (ms : List Mark) → d < planesEach → Each (InPlane z) ms
-      → total z (cell z d x y) (inBoth light matte ms) ≡ planesOf (scaled light ms) d x y
-  unfolding total inBoth planesOf scaled Each
-  light-total [] h a = refl
-  light-total (m ∷ ms) h a =
+  light-on-cell : (ms : List Mark) → d < planesEach → Each (InPlane z) ms
+      → onCell z (cell z d x y) (inBoth light matte ms) ≡ planesOf (scaled light ms) d x y
+  unfolding onCell inBoth planesOf scaled Each
+  light-on-cell [] h a = refl
+  light-on-cell (m ∷ ms) h a =
       let v = light * m .coefficient in
       let w = matte * m .coefficient in
       rw (
         one-mark d (m .plane) v m (a .0),
         one-mark d (planesEach + m .plane) w m (a .0),
         same-no d (planesEach + m .plane) _ (omega arith),
-        light-total ms h (a .1),
+        light-on-cell ms h (a .1),
       )
       (omega arith)
 
-  matte-total : (ms : List Mark) → Each (InPlane z) ms
-      → total z (cell z (planesEach + d) x y) (inBoth light matte ms) ≡ planesOf (scaled matte ms) d x y
-  unfolding total inBoth planesOf scaled Each
-  matte-total [] a = refl
-  matte-total (m ∷ ms) a =
+  matte-on-cell : (ms : List Mark) → Each (InPlane z) ms
+      → onCell z (cell z (planesEach + d) x y) (inBoth light matte ms) ≡ planesOf (scaled matte ms) d x y
+  unfolding onCell inBoth planesOf scaled Each
+  matte-on-cell [] a = refl
+  matte-on-cell (m ∷ ms) a =
       let v = light * m .coefficient in
       let w = matte * m .coefficient in
       rw (
@@ -138,7 +138,7 @@ module _ (z : Size) (light matte d x y : ℕ) (px : x < wide z) (py : y < high z
         one-mark (planesEach + d) (planesEach + m .plane) w m (a .0),
         same-no (planesEach + d) (m .plane) _ (omega (arith, a .0 .plane-in)),
         same-as (planesEach + d) (planesEach + m .plane) d (m .plane) _ (omega arith) (omega arith),
-        matte-total ms (a .1),
+        matte-on-cell ms (a .1),
       )
       (omega arith)
 
@@ -159,16 +159,16 @@ laid z w i p = scaled w (kernelOf p (columnOf z i) (rowOf z i))
 module _ (z : Size) (law : LawfulSize z) (i : ℕ) (h : i < places z) (p : Pixel) (fits : Fits (z .reach) p) (d x y : ℕ) where
   -- "for light; then the same for matte"
   pub light-laid : d < planesEach → x < wide z → y < high z
-      → total z (cell z (0 + d) x y) (pixelMarks z i p) ≡ planesOf (laid z (lightOf p) i p) d x y
+      → onCell z (cell z (0 + d) x y) (pixelMarks z i p) ≡ planesOf (laid z (lightOf p) i p) d x y
   unfolding pixelMarks laid
   light-laid g px py =
       let e : 0 + d ≡ d = omega arith in
-      rw e (light-total z (lightOf p) (matteOf p) d x y px py _ g (marks-inside z i p law fits h))
+      rw e (light-on-cell z (lightOf p) (matteOf p) d x y px py _ g (marks-inside z i p law fits h))
 
   pub matte-laid : x < wide z → y < high z
-      → total z (cell z (planesEach + d) x y) (pixelMarks z i p) ≡ planesOf (laid z (matteOf p) i p) d x y
+      → onCell z (cell z (planesEach + d) x y) (pixelMarks z i p) ≡ planesOf (laid z (matteOf p) i p) d x y
   unfolding pixelMarks laid
-  matte-laid px py = matte-total z (lightOf p) (matteOf p) d x y px py _ (marks-inside z i p law fits h)
+  matte-laid px py = matte-on-cell z (lightOf p) (matteOf p) d x y px py _ (marks-inside z i p law fits h)
 
   -- "0 outside"
   pub laid-outside : (w : ℕ) → (x < wide z → y < high z → ⊥) → planesOf (laid z w i p) d x y ≡ 0

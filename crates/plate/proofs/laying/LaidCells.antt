@@ -14,7 +14,7 @@ use Rattle.kernels.proofs.numbers.Choices.{by-eq, same-yes, same-no, same-mul}
 use Rattle.kernels.proofs.sums.FiniteSums.{cong-add}
 use Rattle.plate.specs.Layout.{Size}
 use Rattle.plate.specs.Word.{Pixel}
-use Rattle.plate.specs.Marks.{pixelMarks, cellOf, layOne, layAll, exchanged, layGrid, total}
+use Rattle.plate.specs.Marks.{pixelMarks, cellOf, layOne, layAll, exchanged, layGrid, onCell}
 
 -- a remainder at 2^64 is below it
 pub wrapped-low : (n : ℕ) → n % 2 ^ 64 < 2 ^ 64
@@ -56,8 +56,8 @@ length-lay z cells (m ∷ ms) =
 
 -- a cell after a list of marks, at 2^64: what it held and all that is laid there
 pub lay-wrapped : (z : Size) (cells : List ℕ) (ms : List Mark) (k : ℕ) → k < length cells
-    → getD (layAll z cells ms) k 0 % 2 ^ 64 ≡ (getD cells k 0 + total z k ms) % 2 ^ 64
-unfolding layAll total
+    → getD (layAll z cells ms) k 0 % 2 ^ 64 ≡ (getD cells k 0 + onCell z k ms) % 2 ^ 64
+unfolding layAll onCell
 lay-wrapped z cells [] k h = omega arith
 lay-wrapped z cells (m ∷ ms) k h =
     let p = cellOf z m in
@@ -77,20 +77,20 @@ lay-low z cells (m ∷ ms) k h f =
 
 -- and a cell below 2^64 holds just that, wrapped
 pub lay-cell : (z : Size) (cells : List ℕ) (ms : List Mark) (k : ℕ) → k < length cells → getD cells k 0 < 2 ^ 64
-    → getD (layAll z cells ms) k 0 ≡ (getD cells k 0 + total z k ms) % 2 ^ 64
+    → getD (layAll z cells ms) k 0 ≡ (getD cells k 0 + onCell z k ms) % 2 ^ 64
 lay-cell z cells ms k h f = sym (mod-eq-of-lt (lay-low z cells ms k h f)) ∙ lay-wrapped z cells ms k h
 
 -- WHAT MARKS LAY ON A CELL
-pub total-scaled : (z : Size) (k c : ℕ) (ms : List Mark) → total z k (scaled c ms) ≡ c * total z k ms
-unfolding total scaled
-total-scaled z k c [] = omega arith
-total-scaled z k c (m ∷ ms) = omega (arith, same-mul c k (cellOf z m) (m .coefficient), total-scaled z k c ms)
+pub on-cell-scaled : (z : Size) (k c : ℕ) (ms : List Mark) → onCell z k (scaled c ms) ≡ c * onCell z k ms
+unfolding onCell scaled
+on-cell-scaled z k c [] = omega arith
+on-cell-scaled z k c (m ∷ ms) = omega (arith, same-mul c k (cellOf z m) (m .coefficient), on-cell-scaled z k c ms)
 
 -- minus marks and the marks lay nothing together
-pub total-minus : (z : Size) (k s : ℕ) (ms : List Mark)
-    → (s + (total z k (scaled (minus 1) ms) + total z k ms)) % 2 ^ 64 ≡ s % 2 ^ 64
+pub on-cell-minus : (z : Size) (k s : ℕ) (ms : List Mark)
+    → (s + (onCell z k (scaled (minus 1) ms) + onCell z k ms)) % 2 ^ 64 ≡ s % 2 ^ 64
 unfolding minus
-total-minus z k s ms = rw (total-scaled z k ((2 ^ 64 - 1) * 1) ms) (whole s (total z k ms))
+on-cell-minus z k s ms = rw (on-cell-scaled z k ((2 ^ 64 - 1) * 1) ms) (whole s (onCell z k ms))
   where
     whole : (s t : ℕ) → (s + ((2 ^ 64 - 1) * 1 * t + t)) % 2 ^ 64 ≡ s % 2 ^ 64
     whole s t = let e : s + ((2 ^ 64 - 1) * 1 * t + t) ≡ s + 2 ^ 64 * t = omega arith in rw (e, add-mul-mod-self-left)
@@ -104,16 +104,16 @@ length-exchanged z i old new planes = length-lay z _ (pixelMarks z i new) ∙ le
 -- the old pixel's marks come off a cell and the new one's go on
 pub exchanged-cell : (z : Size) (i : ℕ) (old new : Pixel) (planes : List ℕ) (k s t : ℕ)
     → k < length planes → getD planes k 0 ≡ s % 2 ^ 64
-    → t + total z k (pixelMarks z i old) ≡ s + total z k (pixelMarks z i new)
+    → t + onCell z k (pixelMarks z i old) ≡ s + onCell z k (pixelMarks z i new)
     → getD (exchanged z i old new planes) k 0 ≡ t % 2 ^ 64
 unfolding exchanged
 exchanged-cell z i old new planes k s t h here e =
     let off = scaled (minus 1) (pixelMarks z i old) in
     let on = pixelMarks z i new in
     let taken = lay-cell z planes off k h (rw here (wrapped-low s)) in
-    let rest : total z k off + total z k on + s ≡ t + (total z k off + total z k (pixelMarks z i old)) = omega arith in
+    let rest : onCell z k off + onCell z k on + s ≡ t + (onCell z k off + onCell z k (pixelMarks z i old)) = omega arith in
     lay-cell z (layAll z planes off) on k (omega (arith, length-lay z planes off)) (rw taken (wrapped-low _))
-    ∙ rw (taken, here) (regroup s (total z k off) (total z k on) ∙ rw rest (total-minus z k t (pixelMarks z i old)))
+    ∙ rw (taken, here) (regroup s (onCell z k off) (onCell z k on) ∙ rw rest (on-cell-minus z k t (pixelMarks z i old)))
   where
     regroup : (s a b : ℕ) → ((s % 2 ^ 64 + a) % 2 ^ 64 + b) % 2 ^ 64 ≡ (a + b + s) % 2 ^ 64
     regroup s a b = omega arith
@@ -126,7 +126,7 @@ length-lay-grid z g cells (suc n) = length-lay z (layGrid z g cells n) (pixelMar
 
 -- a cell after the marks of n pixels
 pub lay-grid-cell : (z : Size) (g : ℕ → Pixel) (cells : List ℕ) (n k : ℕ) → k < length cells → getD cells k 0 < 2 ^ 64
-    → getD (layGrid z g cells n) k 0 ≡ (getD cells k 0 + sum (λ i. total z k (pixelMarks z i (g i))) n) % 2 ^ 64
+    → getD (layGrid z g cells n) k 0 ≡ (getD cells k 0 + sum (λ i. onCell z k (pixelMarks z i (g i))) n) % 2 ^ 64
 unfolding layGrid sum
 lay-grid-cell z g cells zero k h f = omega arith
 lay-grid-cell z g cells (suc n) k h f =
