@@ -1,4 +1,4 @@
--- The C interface: the plate's calls with C's structs for state, lens and answer.
+-- The C interface: the plate's calls with C's structs for state, lens, answer and totals.
 use mathlib.Core.List.{List}
 use Prim.Native.Nat.{ℕ}
 use Rattle.kernels.specs.declared.lens.Lens.{Lens}

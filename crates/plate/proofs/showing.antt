@@ -1,6 +1,6 @@
 -- Show's sums, row by row, and the pictures that they give: how a loop writes rows of cells, where a picture's sums lie, one row
 -- of them, the lines of a slope from row to row, all sums one row further, the rising lines before the first row, both pictures
--- side by side, the image, and its sums where they are kept.
+-- side by side, the image, its sums where they are kept, and all finished cells added up.
 pub mod Writes
 pub mod Starts
 pub mod RowSums

@@ -27,7 +27,7 @@ use Rattle.plate.proofs.checks.Passed.{sizes-pass}
 use Rattle.plate.proofs.numbers.Extents.{row-of}
 use Rattle.plate.proofs.laying.Cells.{reach-under}
 use Rattle.plate.proofs.demands.Squares.{weights-on}
-use Rattle.plate.proofs.demands.PlainSums.{sum-le, InPicture, in-light, in-matte, cellWeight, cell-wrapped}
+use Rattle.plate.proofs.demands.PlainSums.{sum-le, matte-most, light-most, InPicture, in-light, in-matte, cellWeight, cell-wrapped}
 use Rattle.plate.proofs.demands.Mirror.{Mirrored}
 use Rattle.plate.proofs.demands.Demand.{opened}
 
@@ -96,12 +96,9 @@ had-le z grid worth c law top =
 had-below : (z : Size) (grid : List Pixel) → LawfulSize z → ((j : ℕ) → Fits (z .reach) (pixelAt grid j))
     → (hadBy z grid matteOf < 2 ^ 64) × (hadBy z grid lightOf < 2 ^ 64)
 had-below z grid law fits = (
-  omega (arith, had-le z grid matteOf opacityTop law byte),
-  omega (arith, had-le z grid lightOf (valueTop * opacityTop) law (λ j. product-le _ _ valueTop opacityTop (fits j .value-fits) (byte j))),
+  omega (arith, had-le z grid matteOf opacityTop law (λ j. matte-most _ _ (fits j))),
+  omega (arith, had-le z grid lightOf (valueTop * opacityTop) law (λ j. light-most _ _ (fits j))),
 )
-  where
-    byte : (j : ℕ) → pixelAt grid j .opacity ≤ opacityTop
-    byte j = omega (arith, fits j .opacity-fits)
 
 -- THE TOTAL
 module _ (z : Size) (room : ℕ) (planes : List ℕ) (grid : List Pixel) (pile : List Entry) (kept : Mirrored z room planes grid pile) where

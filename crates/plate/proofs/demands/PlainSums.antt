@@ -40,16 +40,20 @@ plain-le z grid worth c i law top =
     (sum-le _ (c * unit) (places z) (λ j. product-le (worth (pixelAt grid j)) _ c unit (top j) (weight-le _ _ _ _)))
     (product-le (places z) (c * unit) placesTop (c * unit) (law .places-top) (le-refl _))
 
+-- what a lawful pixel is worth at most, in matte and in light
+pub matte-most : (R : ℕ) (q : Pixel) → Fits R q → matteOf q ≤ opacityTop
+matte-most R q fits = omega (arith, fits .opacity-fits)
+
+pub light-most : (R : ℕ) (q : Pixel) → Fits R q → lightOf q ≤ valueTop * opacityTop
+light-most R q fits = product-le _ _ valueTop opacityTop (fits .value-fits) (matte-most R q fits)
+
 -- "the finished light and matte don't: 255 × 4,095 × 2^44 is below 2^64"
 pub no-wrap : (z : Size) (grid : List Pixel) → LawfulSize z → ((j : ℕ) → Fits (z .reach) (pixelAt grid j)) → (i : ℕ)
     → (plainSum z grid lightOf i < 2 ^ 64) × (plainSum z grid matteOf i < 2 ^ 64)
 no-wrap z grid law fits i = (
-  omega (arith, plain-le z grid lightOf (valueTop * opacityTop) i law (λ j. product-le _ _ valueTop opacityTop (fits j .value-fits) (byte j))),
-  omega (arith, plain-le z grid matteOf opacityTop i law byte),
+  omega (arith, plain-le z grid lightOf (valueTop * opacityTop) i law (λ j. light-most _ _ (fits j))),
+  omega (arith, plain-le z grid matteOf opacityTop i law (λ j. matte-most _ _ (fits j))),
 )
-  where
-    byte : (j : ℕ) → pixelAt grid j .opacity ≤ opacityTop
-    byte j = omega (arith, fits j .opacity-fits)
 
 -- THE FINISHED SUMS ARE THE PLAIN SUMS
 -- distances in a padded plane are those in the image
