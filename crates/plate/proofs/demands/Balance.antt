@@ -2,16 +2,16 @@
 -- had.
 use mathlib.Core.Path.{_≡_, ap, _∙_}
 use mathlib.Core.List.{List}
-use Prim.Native.Nat.{ℕ, _*_, _/_, _%_, _^_, _≤_, _<_}
+use Prim.Native.Nat.{ℕ, _+_, _*_, _/_, _%_, _^_, _≤_, _<_}
 use native.Mathlib.Omega.{arith}
 use native.Mathlib.Nat.{mul-comm, mod-lt, mod-eq-of-lt, le-trans, le-refl}
 use lib.ListN.{getD, length}
-use Rattle.kernels.specs.Fixed.{unit, planesEach, opacityTop, valueTop}
+use Rattle.kernels.specs.Fixed.{unit, planesEach, margin, opacityTop, valueTop}
 use Rattle.kernels.specs.Sum.{sum, dist}
 use Rattle.kernels.proofs.numbers.Products.{product-le}
 use Rattle.kernels.proofs.sums.FiniteSums.{sum-ext, sum-ext-lt, sum-mul, sum-swap, sum-cong}
 use Rattle.plate.specs.Fixed.{planesInAll, scratchPlanes, placesTop}
-use Rattle.plate.specs.Layout.{Size, wide, high, padded, places, columnOf, rowOf}
+use Rattle.plate.specs.Layout.{Size, padded, places, columnOf, rowOf}
 use Rattle.plate.specs.Lent.{stateOf}
 use Rattle.plate.specs.Word.{Pixel, Entry}
 use Rattle.plate.specs.Kernel.{weightOf}
@@ -35,16 +35,21 @@ use Rattle.plate.proofs.demands.Demand.{opened}
 turned : (a b : ℕ) → dist a b ≡ dist b a
 turned a b = omega arith
 
--- over all padded cells a lawful pixel's weights are the whole
-weights-in : (z : Size) (q : Pixel) (j : ℕ) → LawfulSize z → Fits (z .reach) q → j < places z
-    → sum (λ y. sum (λ x. cellWeight z q j x y) (wide z)) (high z) ≡ unit
-weights-in z q j law fits h =
+-- a plane of w columns and h rows goes as far as kernels of a plate's pixels may reach
+record Reaches (z : Size) (w h : ℕ) : Type 0 where
+  pub right : z .width + 2 * z .reach + margin ≤ w
+  pub bottom : z .height + 2 * z .reach + margin ≤ h
+
+-- over all its cells a lawful pixel's weights are the whole
+weights-in : (z : Size) (q : Pixel) (j w h : ℕ) → LawfulSize z → Fits (z .reach) q → j < places z → Reaches z w h
+    → sum (λ y. sum (λ x. cellWeight z q j x y) w) h ≡ unit
+weights-in z q j w h law fits here far =
     let u = reach-under (z .reach) (q .shape) (q .radius) (fits .radius-fits) in
     let across : j % z .width < z .width = mod-lt j (law .width-some) in
-    let down : j / z .width < z .height = row-of j (z .width) (z .height) (law .width-some) h in
-    sum-swap (λ y x. cellWeight z q j x y) (high z) (wide z)
-    ∙ sum-ext _ _ (λ x. sum-ext _ _ (λ y i. weightOf q (turned x (columnOf z j) i) (turned y (rowOf z j) i)) (high z)) (wide z)
-    ∙ weights-on q (columnOf z j) (rowOf z j) (wide z) (high z) (omega arith) (omega arith) (omega arith) (omega arith)
+    let down : j / z .width < z .height = row-of j (z .width) (z .height) (law .width-some) here in
+    sum-swap (λ y x. cellWeight z q j x y) h w
+    ∙ sum-ext _ _ (λ x. sum-ext _ _ (λ y i. weightOf q (turned x (columnOf z j) i) (turned y (rowOf z j) i)) h) w
+    ∙ weights-on q (columnOf z j) (rowOf z j) w h (omega arith) (omega arith) (omega arith) (omega arith)
 
 -- WHAT A PLATE HOLDS
 module _ (z : Size) (planes : List ℕ) (grid : List Pixel) (law : LawfulSize z)
@@ -59,30 +64,31 @@ module _ (z : Size) (planes : List ℕ) (grid : List Pixel) (law : LawfulSize z)
     adds : ℕ → ℕ → ℕ → ℕ
     adds j x y = cellWeight z (pixelAt grid j) j x y
 
-    -- one pixel, over all padded cells
-    one-whole : (j : ℕ) → j < places z → sum (λ y. sum (λ x. worthAt j * adds j x y) (wide z)) (high z) ≡ unit * worthAt j
-    unfolding adds
-    one-whole j h =
-        sum-ext _ _ (λ y. sum-mul (worthAt j) (λ x. adds j x y) (wide z)) (high z)
-        ∙ sum-mul (worthAt j) (λ y. sum (λ x. adds j x y) (wide z)) (high z)
-        ∙ ap (λ (n : ℕ). worthAt j * n) (weights-in z (pixelAt grid j) j law (fits j) h)
-        ∙ mul-comm (worthAt j) unit
+    module _ (w h : ℕ) (far : Reaches z w h) where
+      -- one pixel, over all cells
+      one-whole : (j : ℕ) → j < places z → sum (λ y. sum (λ x. worthAt j * adds j x y) w) h ≡ unit * worthAt j
+      unfolding adds
+      one-whole j here =
+          sum-ext _ _ (λ y. sum-mul (worthAt j) (λ x. adds j x y) w) h
+          ∙ sum-mul (worthAt j) (λ y. sum (λ x. adds j x y) w) h
+          ∙ ap (λ (n : ℕ). worthAt j * n) (weights-in z (pixelAt grid j) j w h law (fits j) here far)
+          ∙ mul-comm (worthAt j) unit
 
-    -- all pixels: their cells may be summed pixel by pixel
-    all-whole : sum (λ y. sum (λ x. sum (λ j. worthAt j * adds j x y) (places z)) (wide z)) (high z) ≡ hadBy z grid worth
-    unfolding hadBy worthAt
-    all-whole =
-        sum-ext _ _ (λ y. sum-swap (λ x j. worthAt j * adds j x y) (wide z) (places z)) (high z)
-        ∙ sum-swap (λ y j. sum (λ x. worthAt j * adds j x y) (wide z)) (high z) (places z)
-        ∙ sum-ext-lt _ (λ j. unit * worthAt j) (places z) one-whole
-        ∙ sum-mul unit worthAt (places z)
+      -- all pixels: what they add may be summed pixel by pixel
+      all-whole : sum (λ y. sum (λ x. sum (λ j. worthAt j * adds j x y) (places z)) w) h ≡ hadBy z grid worth
+      unfolding hadBy worthAt
+      all-whole =
+          sum-ext _ _ (λ y. sum-swap (λ x j. worthAt j * adds j x y) w (places z)) h
+          ∙ sum-swap (λ y j. sum (λ x. worthAt j * adds j x y) w) h (places z)
+          ∙ sum-ext-lt _ (λ j. unit * worthAt j) (places z) one-whole
+          ∙ sum-mul unit worthAt (places z)
 
+    -- the padded plane goes further than that
     held-wrapped : heldFrom z planes p ≡ hadBy z grid worth % 2 ^ 64
     unfolding heldFrom worthAt adds
     held-wrapped =
-        sum-cong _ _
-        (λ y. sum-cong _ _ (λ x. cell-wrapped z planes grid law cells fits p low worth from x y) (wide z)) (high z)
-        ∙ ap (λ (n : ℕ). n % 2 ^ 64) all-whole
+        sum-cong _ _ (λ y. sum-cong _ _ (λ x. cell-wrapped z planes grid law cells fits p low worth from x y) _) _
+        ∙ ap (λ (n : ℕ). n % 2 ^ 64) (all-whole _ _ (record { right = omega arith; bottom = omega arith }))
 
 -- NOTHING WRAPS
 -- "W × H at most 2,097,152", each worth at most c
