@@ -45,8 +45,8 @@ added-next p m s₀ s s' y v d r old same to at e =
 
 -- THE WHOLE
 -- a picture's sums fit into the scratch, all columns of them
-sums-fit : (z : Size) (marks : ℕ) → 7 ≤ wide z → 7 ≤ high z → sumsEnd (wholePicture (frameOf z) marks) ≤ scratchPlanes * padded z
-sums-fit z marks a b = many (wide z - 7) (high z - 7) (wide z) (high z) (omega arith) (omega arith)
+whole-fits : (z : Size) (marks : ℕ) → 7 ≤ wide z → 7 ≤ high z → sumsEnd (wholePicture (frameOf z) marks) ≤ scratchPlanes * padded z
+whole-fits z marks a b = many (wide z - 7) (high z - 7) (wide z) (high z) (omega arith) (omega arith)
   where
     many : (i j w h : ℕ) → w ≡ 7 + i → h ≡ 7 + j
         → sumsEnd (record { columns = w; wide = w; high = h; sums = 0; marks = marks }) ≤ scratchPlanes * (w * h)
@@ -60,7 +60,7 @@ ready-whole z m s p f marks low r e g =
       some = omega (arith, r .lawful);
       narrow = omega arith;
       tall = omega (arith, r .lawful);
-      sums-in = omega (arith, sums-fit z (p * padded z) (omega (arith, r .lawful)) (omega (arith, r .lawful)), r .scratch-is);
+      sums-in = omega (arith, whole-fits z (p * padded z) (omega (arith, r .lawful)) (omega (arith, r .lawful)), r .scratch-is);
       marks-in = omega (arith, mul-le-mul-right (padded z) low, r .planes-are);
     })
 

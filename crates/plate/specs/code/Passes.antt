@@ -270,7 +270,7 @@ fromAbove k plane (suc x) y = within k (y + 0) (slope k 0 plane x (y + 0 - k))
 -- falling lines, of which those that meet a row start at `start`
 pub record FallingLines (k columns high : ℕ) (start : ℕ → ℕ) (plane : Plane) (scratch : List ℕ) (row : ℕ) : Type 0 where
   pub brings : (y x : ℕ) → row ≤ y → y < row + k → x < columns → getD scratch (start y + x) 0 ≡ fromAbove k plane x y % 2 ^ 64
-  -- those that start later
+  -- those that start later, k rows past the last too
   pub fresh : (y : ℕ) → row + k ≤ y → y < high + k → getD scratch (start y) 0 ≡ 0
 
 -- the sum of a line that goes k rows up a column, 0 below the plane
@@ -281,7 +281,7 @@ fromBelow high k plane x y = within (suc y) high (slope 0 k plane x y)
 pub record RisingLines (k columns high : ℕ) (start : ℕ → ℕ) (plane : Plane) (scratch : List ℕ) (row : ℕ) : Type 0 where
   pub brings : (y x : ℕ) → row ≤ y → y < row + k → x < columns
       → getD scratch (start y + x) 0 ≡ fromBelow high k plane x y % 2 ^ 64
-  -- those that end later, at their last column
+  -- those that end later, at their last column, k rows past the last too
   pub later : (y : ℕ) → row + k ≤ y → y < high + k
       → getD scratch (start y + (columns - 1)) 0 ≡ fromBelow high k plane (columns - 1) y % 2 ^ 64
 
