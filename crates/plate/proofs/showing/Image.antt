@@ -17,7 +17,7 @@ use Rattle.plate.specs.Lent.{State, views}
 use Rattle.plate.specs.Refusal.{Accepted, showCheck}
 use Rattle.plate.specs.Calls.{zeros, listTo, stored, sumAt, shown, answerOf, showBy}
 use Rattle.plate.specs.code.Passes.{Picture, planesIn, slopeSums, downFrom, sumsEnd, matteAfter, SummedTo}
-use Rattle.plate.specs.code.Showing.{Image, lightPicture, BothIn, BothTo, BothSummed, RowShown, sumIn, ShownTo, ShowReady}
+use Rattle.plate.specs.code.Showing.{Image, lightPicture, BothIn, BothTo, BothSummed, RowShown, sumIn, ShownTo, TotalReady, ShowReady}
 use Rattle.plate.proofs.checks.Accepted.{show-accepted}
 use Rattle.plate.proofs.numbers.Lists.{length-listTo, getD-listTo}
 
@@ -96,8 +96,8 @@ sums-fit n w h a b c =
         → sumsEnd (matteAfter (record { columns = n; wide = w; high = h; sums = 0; marks = 0 })) ≤ scratchPlanes * (w * h)
     many i j n w h e f a = rw (e, f) (omega arith)
 
-pub ready-both : (z : Size) (light : Picture) (m s v o : List ℕ) → light ≡ lightPicture z → ShowReady z m s v o → BothIn light s m
-ready-both z light m s v o e r =
+pub ready-both : (z : Size) (light : Picture) (m s : List ℕ) → light ≡ lightPicture z → TotalReady z m s → BothIn light s m
+ready-both z light m s e r =
     rw e (record {
       some = omega arith;
       narrow = omega arith;
@@ -184,11 +184,8 @@ pub show-ready : (state : State) (m s v o : List ℕ) → showCheck state (lengt
     → ShowReady (state .size) m s v o
 show-ready state m s v o e =
     let a = show-accepted state (length m) (length s) (length v) (length o) e in
-    let law = a .lawful in
     record {
-      lawful = law;
-      planes-are = a .planes-are;
-      scratch-is = a .scratch-are;
+      sums = record { lawful = a .lawful; planes-are = a .planes-are; scratch-is = a .scratch-are };
       values-are = a .values-are;
       mattes-are = a .mattes-are;
     }

@@ -81,11 +81,15 @@ pub record ShownTo (light : Picture) (image : Image) (planes values mattes : Lis
   pub in-mattes : (x y : ℕ) → x < image .width → y < rows
       → getD mattes (y * image .width + x) 0 ≡ shownMatte (sumIn (matteAfter light) image planes x y)
 
--- what an accepted show may count on
-pub record ShowReady (z : Size) (planes scratch values mattes : List ℕ) : Type 0 where
+-- what an accepted total may count on
+pub record TotalReady (z : Size) (planes scratch : List ℕ) : Type 0 where
   pub lawful : LawfulSize z
   pub planes-are : length planes ≡ planesInAll * padded z
   pub scratch-is : length scratch ≡ scratchPlanes * padded z
+
+-- and an accepted show
+pub record ShowReady (z : Size) (planes scratch values mattes : List ℕ) : Type 0 where
+  pub sums : TotalReady z planes scratch
   pub values-are : length values ≡ places z
   pub mattes-are : length mattes ≡ places z
 

@@ -1,16 +1,15 @@
 -- A total: all finished cells of a picture, row by row.
 use mathlib.Core.Path.{_≡_}
 use mathlib.Core.List.{List}
-use Prim.Native.Nat.{ℕ, _*_, _%_, _^_}
+use Prim.Native.Nat.{ℕ, _%_, _^_}
 use lib.ListN.{length}
 use Rattle.kernels.specs.Sum.{sum, finish}
-use Rattle.plate.specs.Fixed.{planesInAll, scratchPlanes}
-use Rattle.plate.specs.Layout.{Size, padded}
 use Rattle.plate.specs.Lent.{State}
 use Rattle.plate.specs.Refusal.{Accepted}
 use Rattle.plate.specs.Total.{Totals, totalled, totalBy}
-use Rattle.plate.specs.code.Bounds.{LawfulSize, Frame}
+use Rattle.plate.specs.code.Bounds.{Frame}
 use Rattle.plate.specs.code.Passes.{Picture, planesIn}
+pub use Rattle.plate.specs.code.Showing.{TotalReady}
 
 -- a picture of a plate, all columns of it, whose marks start at a place
 abbrev pub wholePicture : Frame → ℕ → Picture
@@ -25,12 +24,6 @@ pub record AddedUp (picture : Picture) (planes old new : List ℕ) (rows result 
   pub same : length new ≡ length old
   pub sum-is : result ≡ finishedTo picture planes rows % 2 ^ 64
 
--- what an accepted total may count on
-pub record TotalReady (z : Size) (planes scratch : List ℕ) : Type 0 where
-  pub lawful : LawfulSize z
-  pub planes-are : length planes ≡ planesInAll * padded z
-  pub scratch-is : length scratch ≡ scratchPlanes * padded z
-
--- what it has done
+-- what an accepted total has done
 abbrev pub TotalDone : State → List ℕ → List ℕ → List ℕ → Totals → Type 0
 TotalDone state planes old new result = totalled result new ≡ totalBy Accepted state planes old

@@ -18,7 +18,7 @@ start c = c .before .before .before .before .before .before .before
 
 -- both pictures' sums fit into the scratch
 fits : (c : tie.After-light-picture) → BothIn (c .light-picture .result) (start c .args .scratch .now) (start c .args .planes .now)
-fits c = ready-both _ _ _ _ _ _ (c .light-picture .ensures) (start c .pre .show)
+fits c = ready-both _ _ _ _ (c .light-picture .ensures) (start c .pre .show .sums)
 
 -- back from the rows above the image, and from those of the image
 abbrev made : tie.After-sum-above → tie.After-light-picture
@@ -37,10 +37,10 @@ same-sums c =
     omega (arith, c .before .before .before .before .sums .given, start (made (summed (kept c))) .pre .sums-are)
 
 light-picture-requires : tie.Need-light-picture-requires
-light-picture-requires c κs = c .before .before .before .before .before .before .pre .show .lawful
+light-picture-requires c κs = c .before .before .before .before .before .before .pre .show .sums .lawful
 
 add-t11 : tie.Need-add-t11
-add-t11 c = omega (arith, start (c .before) .pre .show .lawful .reach-top)
+add-t11 c = omega (arith, start (c .before) .pre .show .sums .lawful .reach-top)
 
 sum-above-requires : tie.Need-sum-above-requires
 sum-above-requires c κs =

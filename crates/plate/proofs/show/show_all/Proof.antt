@@ -16,13 +16,13 @@ abbrev start : tie.After-light-picture → tie.Start
 start c = c .before .before .before .before .before .before
 
 fits : (c : tie.After-light-picture) → BothIn (c .light-picture .result) (start c .args .scratch .now) (start c .args .planes .now)
-fits c = ready-both _ _ _ _ _ _ (c .light-picture .ensures) (start c .pre)
+fits c = ready-both _ _ _ _ (c .light-picture .ensures) (start c .pre .sums)
 
 light-picture-requires : tie.Need-light-picture-requires
-light-picture-requires c κs = c .before .before .before .before .before .pre .lawful
+light-picture-requires c κs = c .before .before .before .before .before .pre .sums .lawful
 
 add-t9 : tie.Need-add-t9
-add-t9 c = omega (arith, start (c .before) .pre .lawful .reach-top)
+add-t9 c = omega (arith, start (c .before) .pre .sums .lawful .reach-top)
 
 sum-above-requires : tie.Need-sum-above-requires
 sum-above-requires c κs =
