@@ -1,4 +1,6 @@
-// The record program: records from standard input, their text to standard output.
+// The record program: records from standard input, their text to standard output. A program has no exit status to fail with, so
+// that a read or a write has failed is said on standard error, and the text then has no last line.
+use libc::STDERR_FILENO;
 use libc::STDIN_FILENO;
 use libc::STDOUT_FILENO;
 use records::advance::advance;
@@ -35,11 +37,24 @@ struct Run {
     more: bool,
 }
 
+// Says what has failed, where something has; hands on whether all went well.
+fn well_or(well: bool, failed: &[u8]) -> bool {
+    if !well {
+        io::write_all(STDERR_FILENO, b"lens_records: ");
+        io::write_all(STDERR_FILENO, failed);
+    }
+    well
+}
+
 // The first bytes of the text are written.
 fn write(text: &[u8], n: usize) -> bool
     requires { ⌜ n ≤ length (now text) ⌝ }
 {
-    io::write_all(STDOUT_FILENO, &text[..n])
+    let well = io::write_all(STDOUT_FILENO, &text[..n]);
+    well_or(
+        well,
+        b"cannot write standard output, so the text is cut short\n",
+    )
 }
 
 // A call of advance, and its text written.
@@ -143,7 +158,10 @@ fn turn(
     if n == 0 {
         return Run {
             machine: machine,
-            well: got == 0,
+            well: well_or(
+                got == 0,
+                b"cannot read standard input, so the run is cut short\n",
+            ),
             more: false,
         };
     }

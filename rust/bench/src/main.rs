@@ -5,6 +5,7 @@
 //! The tables are Markdown.
 
 mod clock;
+mod machine;
 mod plate;
 mod records;
 mod table;
@@ -33,8 +34,9 @@ const TAPS_WAITED_FOR: u64 = 2_000_000_000;
 fn main() {
     let engines = engines();
     println!(
-        "Octagons but in tables that name the shape, reach {REACH}. Processor time, the best of \
-         several rounds of one run.\n"
+        "{} Octagons but in tables that name the shape, reach {REACH}. Processor time, the best \
+         of several rounds of one run.\n",
+        machine::measured()
     );
     main_table(&engines);
     radius_table(&engines);

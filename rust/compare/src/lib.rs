@@ -3,6 +3,7 @@
 //! notebook, with what it keeps beside its plate, a plate for calls made one by one, and a count
 //! of the numbers that calls got.
 
+pub mod c;
 pub mod engine;
 pub mod guard;
 mod keeping;

@@ -1,68 +1,139 @@
-//! include/lens.h in a C program, compiled as C and as C++; linked with the engine and run
-//! where the engine is there.
+//! include/lens.h in C programs, compiled as C and as C++ with every warning an error; linked
+//! with the engine and run where the engine is there, by themselves and watched.
 
-use std::path::Path;
-use std::process::Command;
+use std::fs;
+use std::path::{Path, PathBuf};
 
-use compare::repository;
+use compare::c::{C11, LANGUAGES, Watched};
 
-fn compile_and_run(compiler: &str, flags: &[&str]) {
-    let source = Path::new(env!("CARGO_MANIFEST_DIR")).join("tests/header/plate.c");
-    let object = Path::new(env!("CARGO_TARGET_TMPDIR")).join(format!("plate-{compiler}.o"));
-    let status = Command::new(compiler)
-        .args(flags)
-        .args(["-Wall", "-Wextra", "-Wpedantic", "-Werror", "-c", "-I"])
-        .arg(repository().join("include"))
-        .arg(&source)
-        .arg("-o")
-        .arg(&object)
-        .status()
-        .unwrap_or_else(|error| panic!("{compiler} does not start: {error}"));
-    assert!(status.success(), "{compiler} refuses the header or its program");
-    run_with_engine(&object);
+fn source(name: &str) -> PathBuf {
+    Path::new(env!("CARGO_MANIFEST_DIR")).join("tests/header").join(name)
 }
 
-#[cfg(not(feature = "proved"))]
-fn run_with_engine(_object: &Path) {}
+/// A folder for what one test builds: another may build the same at once.
+fn folder(test: &str) -> PathBuf {
+    let folder = Path::new(env!("CARGO_TARGET_TMPDIR")).join(test);
+    fs::create_dir_all(&folder).expect("the folder can be made");
+    folder
+}
+
+#[test]
+fn the_header_compiles_by_itself() {
+    let folder = folder("alone");
+    for language in LANGUAGES {
+        language.header_alone();
+        for program in ["plate.c", "helpers.c"] {
+            language.object(Watched::No, &source(program), &folder);
+        }
+    }
+    C11.object(Watched::Sanitized, &source("helpers.c"), &folder);
+}
 
 #[cfg(feature = "proved")]
-fn run_with_engine(object: &Path) {
-    let folder = std::env::var_os("LENS_C_DIR")
-        .map_or_else(|| repository().join("target/staticlib"), std::path::PathBuf::from);
-    let program = object.with_extension("");
-    let status = Command::new("cc")
-        .arg(object)
-        .arg(folder.join("liblens_c.a"))
-        .arg("-o")
-        .arg(&program)
-        .status()
-        .expect("cc starts");
-    assert!(status.success(), "the program does not link");
-    let output = Command::new(&program).output().expect("the program starts");
-    let text = "put 0 16 count 1\nput 0 16 count 2\nput 8 0 count 2\n\
-                show 0: 46/255 100/28 100/28\n\
-                total 0: 4278190080 299473305600\n\
-                show 0: 100/28 100/28 100/28\n\
-                total 0: 2139095040 213909504000\n\
-                total 2: 0 0\n\
-                fill 17\nfill 0\n\
-                show 0: 7/255 8/255 9/255\n\
-                show kept 0: 0/0 0/0 0/0\n\
-                put kept 0: 100/28 100/28 100/28\n\
-                put kept 0: 46/255 100/28 100/28\n\
-                put kept 8: 46/255 100/28 100/28\n\
-                undo kept 2: 46/255 100/28 100/28\n\
-                undo kept 0: 100/28 100/28 100/28\n\
-                sums 23767708500 237677085\n";
-    assert_eq!(String::from_utf8_lossy(&output.stdout), text);
-}
+mod with_engine {
+    use std::fmt::Write;
+    use std::process::Command;
 
-#[test]
-fn as_c() {
-    compile_and_run("cc", &["-std=c99"]);
-}
+    use compare::c::{C11, LANGUAGES, Watched, done, valgrind};
+    use compare::say;
+    use lens::{Layer, Lens, Pixel, Plate, Refusal, Shape, Totals};
 
-#[test]
-fn as_cpp() {
-    compile_and_run("g++", &["-x", "c++", "-std=c++11"]);
+    use super::{folder, source};
+
+    const PLATE: &str = "put 0 16 count 1\nput 0 16 count 2\nput 8 0 count 2\n\
+        show 0: 46/255 100/28 100/28\n\
+        total 0: 4278190080 299473305600\n\
+        show 0: 100/28 100/28 100/28\n\
+        total 0: 2139095040 213909504000\n\
+        total 2: 0 0\n\
+        fill 17\nfill 0\n\
+        show 0: 7/255 8/255 9/255\n\
+        show kept 0: 0/0 0/0 0/0\n\
+        put kept 0: 100/28 100/28 100/28\n\
+        put kept 0: 46/255 100/28 100/28\n\
+        put kept 8: 46/255 100/28 100/28\n\
+        undo kept 2: 46/255 100/28 100/28\n\
+        undo kept 0: 100/28 100/28 100/28\n\
+        sums 23767708500 237677085\n";
+
+    #[test]
+    fn a_plate_in_every_language() {
+        let folder = folder("plates");
+        for language in LANGUAGES {
+            let program = language.program(Watched::No, &source("plate.c"), &folder);
+            assert_eq!(done(&mut Command::new(program)), PLATE, "{}", language.name);
+        }
+    }
+
+    /// What the header names, limits, measures and says is what the Rust crate does.
+    #[test]
+    fn helpers_in_every_language() {
+        let expected = helpers();
+        let folder = folder("helpers");
+        for language in LANGUAGES {
+            let program = language.program(Watched::No, &source("helpers.c"), &folder);
+            assert_eq!(done(&mut Command::new(program)), expected, "{}", language.name);
+        }
+    }
+
+    #[test]
+    fn watched() {
+        let folder = folder("watched");
+        for (name, text) in [("plate.c", PLATE.to_string()), ("helpers.c", helpers())] {
+            let sanitized = C11.program(Watched::Sanitized, &source(name), &folder);
+            assert_eq!(done(&mut Command::new(sanitized)), text);
+            let plain = C11.program(Watched::No, &source(name), &folder);
+            match valgrind(&plain) {
+                Some(mut command) => assert_eq!(done(&mut command), text),
+                None => say("valgrind is not installed: not run"),
+            }
+        }
+    }
+
+    fn helpers() -> String {
+        let mut text = String::new();
+        text.push_str(&limits());
+        for number in 0..40 {
+            let said = match Refusal::from_number(number) {
+                None => "accepted",
+                Some(Refusal::Other(_)) => {
+                    "a number that this header has no name for: the archive is of another version"
+                }
+                Some(refusal) => refusal.text(),
+            };
+            writeln!(text, "number {number} {said}").unwrap();
+        }
+        text.push_str("lengths 2493556 34909784 2073600 7480668 2073600 4147200\n");
+        text.push_str("lengths 0 0 0 0 0 0\nlengths 0 0 0 0 0 0\nlengths 0 0 1 0 1 2\n");
+        text.push_str("taken 0 0\ntaken 0 0\ntaken 0 0\n");
+        for shape in Shape::ALL {
+            write!(text, "tops {}", shape.number()).unwrap();
+            for reach in 0..=Plate::MAX_REACH {
+                write!(text, " {}", shape.top_radius(reach)).unwrap();
+            }
+            text.push('\n');
+        }
+        text.push_str("no shape 0\nnothing lent 2 2 2 2 2 2 2 2 2\nno log 0 8 9\nlog 2\n");
+        text
+    }
+
+    fn limits() -> String {
+        let version: Vec<u32> =
+            env!("CARGO_PKG_VERSION").split('.').map(|part| part.parse().unwrap()).collect();
+        let [major, minor, patch] = version[..] else { panic!("three numbers") };
+        let shapes = Shape::ALL.map(|shape| shape.number().to_string()).join(" ");
+        format!(
+            "version {}\nlimits {} {} {} {} {} {} {} {}\nwhole {}\nshapes {shapes}\n",
+            10_000 * major + 100 * minor + patch,
+            Plate::MAX_SIDE,
+            Plate::MAX_PIXELS,
+            Plate::MAX_REACH,
+            Plate::MAX_UNDO_STEPS,
+            Pixel::MAX_VALUE,
+            Lens::MAX_OPENING,
+            Layer::MAX_DEPTH,
+            Lens::MAX_PITCH,
+            Totals::WHOLE,
+        )
+    }
 }

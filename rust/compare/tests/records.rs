@@ -4,10 +4,11 @@
 //! where it is not there, the comparison fails.
 
 use std::env;
-use std::fs;
-use std::io::{self, ErrorKind, Write};
+use std::fs::{self, File};
+use std::io::{self, ErrorKind, Read, Write};
+use std::os::unix::process::ExitStatusExt;
 use std::path::{Path, PathBuf};
-use std::process::{Command, Stdio};
+use std::process::{Command, Output, Stdio};
 use std::thread;
 
 use compare::random::Random;
@@ -32,11 +33,12 @@ fn program() -> PathBuf {
 }
 
 /// Runs the program on an input that is written in parts of these sizes: its text, and
-/// whether all of the input could be written.
+/// whether all of the input could be written. It must have nothing to complain of.
 fn run(program: &Path, input: &[u8], sizes: &[usize]) -> (String, io::Result<()>) {
     let mut child = Command::new(program)
         .stdin(Stdio::piped())
         .stdout(Stdio::piped())
+        .stderr(Stdio::piped())
         .spawn()
         .unwrap_or_else(|error| panic!("{} does not start: {error}", program.display()));
     let mut stdin = child.stdin.take().expect("piped");
@@ -53,6 +55,7 @@ fn run(program: &Path, input: &[u8], sizes: &[usize]) -> (String, io::Result<()>
         (output, writer.join().expect("the writer ends"))
     });
     assert!(output.status.success(), "the program failed: {}", output.status);
+    assert_eq!(String::from_utf8_lossy(&output.stderr), "");
     (String::from_utf8(output.stdout).expect("the text is plain"), written)
 }
 
@@ -243,6 +246,73 @@ fn stopped_stream_agrees(program: &Path, random: &mut Random) {
     let error = written.expect_err("what comes after a stop is not read");
     assert_eq!(error.kind(), ErrorKind::BrokenPipe);
     say(&format!("records: a stream that stops: {} of text", told.len()));
+}
+
+/// What the program writes, to standard output and standard error, between these streams.
+fn ended(input: Stdio, output: Stdio) -> Output {
+    let mut command = Command::new(program());
+    command.stdin(input).stdout(output).stderr(Stdio::piped());
+    command.spawn().and_then(|child| child.wait_with_output()).expect("the program ends")
+}
+
+fn example_input() -> Stdio {
+    let file = repository().join("crates/lens_records/stdin");
+    File::open(file).expect("the example's input").into()
+}
+
+/// A run that a failed read or write cuts short has no last line, and says so on standard error.
+#[test]
+fn a_run_cut_short_is_told() {
+    // A folder can be opened, and not read.
+    let folder = File::open(repository()).expect("the repository's folder");
+    let unread = ended(folder.into(), Stdio::piped());
+    assert_eq!(unread.stdout, b"");
+    let said = "lens_records: cannot read standard input, so the run is cut short\n";
+    assert_eq!(String::from_utf8_lossy(&unread.stderr), said);
+
+    let full = File::options().write(true).open("/dev/full").expect("the full device");
+    let unwritten = ended(example_input(), full.into());
+    let said = "lens_records: cannot write standard output, so the text is cut short\n";
+    assert_eq!(String::from_utf8_lossy(&unwritten.stderr), said);
+
+    // The toolchain's programs have no exit status of their own.
+    assert!(unread.status.success() && unwritten.status.success());
+}
+
+/// A reader that goes away ends the program by the system's signal, as it does any other.
+#[test]
+fn a_reader_that_goes_away() {
+    let input = shows(15_000, &mut Random::new(53));
+    let mut child = Command::new(program())
+        .stdin(Stdio::piped())
+        .stdout(Stdio::piped())
+        .spawn()
+        .expect("the program starts");
+    let mut stdin = child.stdin.take().expect("piped");
+    let writer = thread::spawn(move || stdin.write_all(&input));
+    let mut stdout = child.stdout.take().expect("piped");
+    stdout.read_exact(&mut [0; 100]).expect("the first bytes of the text");
+    drop(stdout);
+    let status = child.wait().expect("the program ends");
+    assert_eq!(status.signal(), Some(13), "SIGPIPE");
+    // All of the input may have been read before.
+    let _ = writer.join().expect("the writer ends");
+}
+
+/// The example of README.md, typed as it stands there.
+#[test]
+fn readme_shows_what_it_prints() {
+    let readme = fs::read_to_string(repository().join("README.md")).expect("README.md");
+    let mut lines = readme.lines().skip_while(|line| !line.starts_with("    printf "));
+    let typed = lines.next().expect("README.md has an example of records").trim();
+    let printed: String = lines
+        .map_while(|line| line.strip_prefix("    "))
+        .map(|line| format!("{line}\n"))
+        .collect();
+    let typed = typed.replace("target/bin/lens_records", program().to_str().expect("plain"));
+    let output = Command::new("sh").args(["-c", &typed]).output().expect("sh starts");
+    assert_eq!(String::from_utf8_lossy(&output.stdout), printed);
+    assert!(printed.ends_with("done 6\n"));
 }
 
 /// The cases that the program `records_cases` runs, each with its name.

@@ -32,7 +32,8 @@ fn main() -> Result<(), Box<dyn Error>> {
     fs::create_dir_all(&folder)?;
     let scene = Scene::new();
     let stroke = scene::stroke();
-    let mut plate = Plate::open(WIDTH, HEIGHT, REACH, stroke.len())?;
+    let mut plate =
+        Plate::builder(WIDTH, HEIGHT).reach(REACH).undo_steps(stroke.len()).open()?;
     let mut sheet = Sheet::new(WIDTH, HEIGHT, 4);
 
     let before = see_shapes(&mut plate, &scene, &folder, &mut sheet)?;

@@ -2,84 +2,67 @@
 
 use std::fmt;
 
+use crate::builder::{Lengths, PlateBuilder};
+use crate::pixel::Pixel;
 use crate::raw::{self, Answer, Lens, State};
 use crate::refusal::Refusal;
-
-/// The kernel that a pixel is spread by.
-///
-/// A kernel of radius r covers r pixels to each side, a tent 2 r, a triple 3 r. That must
-/// be within the plate's reach. The greatest radius is 64, of a tent 8, of a triple 3.
-///
-/// Every kernel adds up to the whole exactly, so a flat layer keeps its value and its
-/// opacity to the code value; only nearer to the border than its kernel covers does the
-/// matte fall off.
-#[derive(Clone, Copy, Debug, PartialEq, Eq, Hash)]
-#[repr(u8)]
-pub enum Shape {
-    Box,
-    /// Two boxes convolved.
-    Tent,
-    /// Three boxes convolved.
-    Triple,
-    Diamond,
-    Hexagon,
-    Octagon,
-}
-
-impl Shape {
-    /// All shapes in the order of their numbers, from 0.
-    pub const ALL: [Shape; 6] = [
-        Shape::Box,
-        Shape::Tent,
-        Shape::Triple,
-        Shape::Diamond,
-        Shape::Hexagon,
-        Shape::Octagon,
-    ];
-
-    pub fn number(self) -> u8 {
-        self as u8
-    }
-}
-
-/// A pixel of the layer.
-#[derive(Clone, Copy, Debug, PartialEq, Eq)]
-pub struct Pixel {
-    /// 0 to 4,095.
-    pub value: u16,
-    pub opacity: u8,
-    pub shape: Shape,
-    pub radius: u8,
-}
+use crate::shape::Shape;
 
 /// A whole layer, each part with a cell for every pixel of the plate, row by row.
 #[derive(Clone, Copy, Debug)]
 pub struct Layer<'a> {
-    /// 0 to 4,095.
+    /// 0 to 4,095 ([`Pixel::MAX_VALUE`]).
     pub values: &'a [u16],
+    /// 0 none to 255 all.
     pub opacities: &'a [u8],
-    /// In 0.1 mm, above the lens's focal length and at most 10,000,000; 0 is infinity.
+    /// In 0.1 mm, above the lens's focal length and at most 10,000,000
+    /// ([`Layer::MAX_DEPTH`]); 0 is infinity.
     pub depths: &'a [u32],
 }
 
-/// What a plate shows, row by row.
+impl Layer<'_> {
+    /// The greatest depth but infinity, in 0.1 mm: as far as a lens can be focused.
+    pub const MAX_DEPTH: u32 = Lens::MAX_FOCUS;
+}
+
+/// What a plate shows, one channel, row by row.
 #[derive(Clone, Debug, PartialEq, Eq)]
 pub struct Pictures {
-    /// 0 to 4,095.
+    /// Light over matte, 0 to 4,095: how bright what is there is, unpremultiplied, that is not
+    /// multiplied by the matte. It is 0 where no pixel adds to the matte; where they add too
+    /// little for a matte of 1, the value still stands.
     pub values: Vec<u16>,
+    /// How much of the layer is there, 0 none to 255 all. Kernels that overlap may add up to
+    /// more; it is shown as 255.
     pub mattes: Vec<u8>,
 }
 
 /// What a plate adds up to.
 #[derive(Clone, Copy, Debug, PartialEq, Eq)]
 pub struct Totals {
-    /// 8,388,608 times the sum of all opacities.
+    /// [`Totals::WHOLE`] times the sum of all opacities.
     pub matte: u64,
-    /// 8,388,608 times the sum of opacity × value.
+    /// [`Totals::WHOLE`] times the sum of opacity × value.
     pub light: u64,
 }
 
+impl Totals {
+    /// What the weights of every kernel add up to, so what a pixel gives for each step of its
+    /// opacity.
+    pub const WHOLE: u64 = 8_388_608;
+}
+
 /// A plate with its buffers. Calls that return a [`Refusal`] have changed nothing.
+///
+/// # Threads
+///
+/// A plate is [`Send`] and [`Sync`]. The engine keeps nothing of its own, so calls on
+/// different plates may run at once; of one plate, whatever takes `&self` may.
+///
+/// # Cost of a clone
+///
+/// A clone copies all buffers, [`PlateBuilder::bytes`] of them: for 1920 × 1080 pixels with
+/// the greatest reach and undo log 356,236,696 bytes. To come back to an earlier picture, undo.
 #[derive(Clone)]
 pub struct Plate {
     state: State,
@@ -91,27 +74,37 @@ pub struct Plate {
 }
 
 impl Plate {
-    /// A plate of empty pixels whose kernels reach `reach` pixels, with an undo log of
-    /// `log_len` puts; a put on a full log is refused.
-    ///
-    /// # Errors
-    /// [`Refusal::Sizes`] if width or height is not 1 to 4,096, their product above
-    /// 2,097,152, or the reach above 64; [`Refusal::Lengths`] if `log_len` is above 65,535.
-    pub fn open(
+    /// The greatest width, and the greatest height.
+    pub const MAX_SIDE: usize = 4_096;
+
+    /// The greatest width × height.
+    pub const MAX_PIXELS: usize = 2_097_152;
+
+    /// The greatest reach.
+    pub const MAX_REACH: usize = 64;
+
+    /// The most puts that an undo log holds.
+    pub const MAX_UNDO_STEPS: usize = 65_535;
+
+    /// Begins to open a plate of this size; see [`PlateBuilder`] for what else it can be
+    /// given, and for the memory that it takes.
+    pub fn builder(width: usize, height: usize) -> PlateBuilder {
+        PlateBuilder::new(width, height)
+    }
+
+    /// A plate with buffers of these lengths, where the engine opens one over them.
+    pub(crate) fn over(
+        lengths: Lengths,
         width: usize,
         height: usize,
         reach: usize,
-        log_len: usize,
     ) -> Result<Plate, Refusal> {
-        let cells = padded_cells(width, height, reach);
-        let pixels = if cells == 0 { 0 } else { width * height };
         let mut plate = Plate {
             state: State::default(),
-            planes: vec![0; 14 * cells],
-            pixels: vec![0; pixels],
-            // One more entry than is lawful is refused like any greater number.
-            log: vec![0; log_len.min(65_536)],
-            scratch: vec![0; 3 * cells],
+            planes: vec![0; lengths.planes],
+            pixels: vec![0; lengths.pixels],
+            log: vec![0; lengths.log],
+            scratch: vec![0; lengths.scratch],
         };
         let Plate { planes, pixels, log, .. } = &mut plate;
         let answer = raw::open(width, height, reach, planes, pixels, log);
@@ -119,14 +112,17 @@ impl Plate {
         Ok(plate)
     }
 
+    /// How many pixels a row has.
     pub fn width(&self) -> usize {
         self.state.width
     }
 
+    /// How many rows there are.
     pub fn height(&self) -> usize {
         self.state.height
     }
 
+    /// How many pixels a kernel may reach to each side.
     pub fn reach(&self) -> usize {
         self.state.reach
     }
@@ -134,6 +130,38 @@ impl Plate {
     /// How many puts can be undone now.
     pub fn undo_count(&self) -> usize {
         self.state.count
+    }
+
+    /// How many puts the undo log holds in all; when [`Plate::undo_count`] is there, the next
+    /// put is refused.
+    pub fn undo_capacity(&self) -> usize {
+        self.log.len()
+    }
+
+    /// The pixel that stands there now, as it was put or filled: a filled one with the radius
+    /// that the lens gave it.
+    ///
+    /// ```
+    /// use lens::{Pixel, Plate, Refusal, Shape};
+    ///
+    /// let mut plate = Plate::builder(3, 1).reach(1).undo_steps(2).open()?;
+    /// let pixel = Pixel { value: 100, opacity: 255, shape: Shape::Box, radius: 1 };
+    /// plate.put(1, 0, pixel)?;
+    /// assert_eq!(plate.pixel(1, 0), Ok(pixel));
+    /// assert_eq!(plate.pixel(2, 0), Ok(Pixel::EMPTY));
+    /// assert_eq!(plate.pixel(3, 0), Err(Refusal::Place));
+    /// # Ok::<(), Refusal>(())
+    /// ```
+    ///
+    /// # Errors
+    /// [`Refusal::Place`]; [`Refusal::StoredWord`] for a stored word that is no pixel's, which
+    /// no call leaves.
+    pub fn pixel(&self, x: usize, y: usize) -> Result<Pixel, Refusal> {
+        let State { width, height, reach, .. } = self.state;
+        if x >= width || y >= height {
+            return Err(Refusal::Place);
+        }
+        Pixel::from_word(self.pixels[y * width + x], reach).ok_or(Refusal::StoredWord)
     }
 
     /// Sets one pixel, remembers the old one in the undo log, and tells how many marks
@@ -169,8 +197,7 @@ impl Plate {
     }
 
     /// Replaces every pixel, with one shape for all and each radius by the lens from its
-    /// depth, to the nearest, a half upwards, at most what shape and reach allow. Empties the
-    /// undo log.
+    /// depth, see [`Lens`]. Empties the undo log.
     ///
     /// # Errors
     /// [`Refusal::Lengths`] if a part of the layer has another length than width × height,
@@ -195,6 +222,10 @@ impl Plate {
 
     /// The pictures of the pixels that stand there now, to the nearest code value: a value
     /// half way between two goes to the even one, a matte upwards.
+    ///
+    /// # Panics
+    /// Only if the archive that is linked is not the one this crate was written for: that the
+    /// engine accepts it is a theorem.
     pub fn show(&mut self) -> Pictures {
         let cells = self.state.width * self.state.height;
         let mut pictures = Pictures { values: vec![0; cells], mattes: vec![0; cells] };
@@ -221,14 +252,18 @@ impl Plate {
     /// use lens::{Pixel, Plate, Refusal, Shape, Totals};
     ///
     /// // One row high: a box of radius 1 has six of its nine taps outside the image.
-    /// let mut plate = Plate::open(3, 1, 1, 2)?;
+    /// let mut plate = Plate::builder(3, 1).reach(1).undo_steps(2).open()?;
     /// plate.put(1, 0, Pixel { value: 100, opacity: 255, shape: Shape::Box, radius: 1 })?;
     /// plate.put(0, 0, Pixel { value: 40, opacity: 51, shape: Shape::Box, radius: 0 })?;
-    /// let whole = 8_388_608;
-    /// let light = whole * (255 * 100 + 51 * 40);
-    /// assert_eq!(plate.total(), Totals { matte: whole * (255 + 51), light });
+    /// let matte = Totals::WHOLE * (255 + 51);
+    /// let light = Totals::WHOLE * (255 * 100 + 51 * 40);
+    /// assert_eq!(plate.total(), Totals { matte, light });
     /// # Ok::<(), Refusal>(())
     /// ```
+    ///
+    /// # Panics
+    /// Only if the archive that is linked is not the one this crate was written for: that the
+    /// engine accepts it is a theorem.
     pub fn total(&mut self) -> Totals {
         let totals = raw::total(self.state, &self.planes, &mut self.scratch);
         self.take(totals.answer).expect("planes and scratch have the plate's size");
@@ -285,12 +320,13 @@ impl Plate {
 
     /// Keeps the state of an accepted call, and gives its mark count.
     fn take(&mut self, answer: Answer) -> Result<u32, Refusal> {
-        if answer.number == 0 {
-            self.state = answer.state;
-            return Ok(answer.marks);
+        match Refusal::from_number(answer.number) {
+            None => {
+                self.state = answer.state;
+                Ok(answer.marks)
+            }
+            Some(refusal) => Err(refusal),
         }
-        let refusal = Refusal::from_number(answer.number);
-        Err(refusal.expect("the engine answers 0 or a refusal's number"))
     }
 }
 
@@ -300,61 +336,45 @@ impl fmt::Debug for Plate {
     }
 }
 
-/// The cells of a padded plane; 0 for sizes that open refuses, so that nothing is
-/// allocated for them.
-fn padded_cells(width: usize, height: usize, reach: usize) -> usize {
-    let side = 1..=4_096;
-    if !side.contains(&width) || !side.contains(&height) || width * height > 2_097_152 {
-        return 0;
+#[cfg(test)]
+impl Plate {
+    /// The bytes of all buffers.
+    pub(crate) fn buffers_size(&self) -> usize {
+        let Plate { planes, pixels, log, scratch, .. } = self;
+        [planes, pixels, log, scratch].map(|buffer| size_of_val(&buffer[..])).iter().sum()
     }
-    if reach > 64 {
-        return 0;
-    }
-    (width + 2 * reach + 6) * (height + 2 * reach + 6)
 }
 
 #[cfg(test)]
 mod tests {
     use super::*;
+    use crate::Canvas;
 
-    #[test]
-    fn sizes_and_log_are_judged_by_the_engine() {
-        for (width, height, reach) in [
-            (0, 1, 0),
-            (1, 0, 0),
-            (4_097, 1, 0),
-            (4_096, 513, 0),
-            (1, 1, 65),
-            (usize::MAX, 2, 0),
-        ] {
-            let refused = Plate::open(width, height, reach, usize::MAX);
-            assert_eq!(refused.err(), Some(Refusal::Sizes));
-        }
-        assert_eq!(Plate::open(1, 1, 0, 65_536).err(), Some(Refusal::Lengths));
-        assert!(Plate::open(1, 1, 0, 65_535).is_ok());
+    const LENS: Lens = Lens { opening: 250, focal: 500, focus: 20_000, pitch: 50 };
+
+    fn open(width: usize, height: usize, reach: usize, undo_steps: usize) -> Plate {
+        Plate::builder(width, height).reach(reach).undo_steps(undo_steps).open().unwrap()
     }
 
     #[test]
     fn wrong_lengths_are_refused() {
-        let mut plate = Plate::open(2, 2, 3, 0).unwrap();
+        let mut plate = open(2, 2, 3, 0);
         let refused = plate.show_into(&mut [0; 3], &mut [0; 4]);
         assert_eq!(refused, Err(Refusal::Lengths));
-        let lens = Lens { opening: 250, focal: 500, focus: 20_000, pitch: 50 };
         let layer = Layer { values: &[7; 4], opacities: &[255; 4], depths: &[20_000; 3] };
-        assert_eq!(plate.fill(lens, Shape::Box, layer), Err(Refusal::Lengths));
+        assert_eq!(plate.fill(LENS, Shape::Box, layer), Err(Refusal::Lengths));
         let layer = Layer { depths: &[20_000; 4], ..layer };
-        assert_eq!(plate.fill(lens, Shape::Box, layer), Ok(()));
+        assert_eq!(plate.fill(LENS, Shape::Box, layer), Ok(()));
         assert_eq!(plate.show().values, [7; 4]);
     }
 
     #[test]
     fn a_depth_inside_the_lens_is_refused() {
-        let mut plate = Plate::open(2, 1, 3, 0).unwrap();
-        let lens = Lens { opening: 250, focal: 500, focus: 20_000, pitch: 50 };
+        let mut plate = open(2, 1, 3, 0);
         let mut fill = |value: u16, depth: u32| {
             let depths = [20_000, depth];
             let layer = Layer { values: &[value; 2], opacities: &[255; 2], depths: &depths };
-            let answer = plate.fill(lens, Shape::Octagon, layer);
+            let answer = plate.fill(LENS, Shape::Octagon, layer);
             (answer, plate.show().values)
         };
         assert_eq!(fill(7, 0), (Ok(()), vec![7; 2]));
@@ -362,5 +382,142 @@ mod tests {
             assert_eq!(fill(8, depth), (Err(Refusal::DepthInside), vec![7; 2]));
         }
         assert_eq!(fill(8, 501), (Ok(()), vec![8; 2]));
+    }
+
+    #[test]
+    fn the_greatest_value_lens_and_depth() {
+        let mut plate = open(1, 1, 3, 1);
+        let mut fill = |lens, value, depth| {
+            let layer = Layer { values: &[value], opacities: &[255], depths: &[depth] };
+            plate.fill(lens, Shape::Box, layer)
+        };
+        let greatest = Lens {
+            opening: Lens::MAX_OPENING,
+            focal: Lens::MAX_FOCAL,
+            focus: Lens::MAX_FOCUS,
+            pitch: Lens::MAX_PITCH,
+        };
+        let least = Lens { opening: 1, focal: 1, focus: 2, pitch: 1 };
+        assert_eq!(fill(greatest, Pixel::MAX_VALUE, Layer::MAX_DEPTH), Ok(()));
+        assert_eq!(fill(least, Pixel::MAX_VALUE, Layer::MAX_DEPTH), Ok(()));
+        for wrong in [
+            Lens { opening: 0, ..least },
+            Lens { focal: 0, ..least },
+            Lens { focus: 1, ..least },
+            Lens { pitch: 0, ..least },
+            Lens { opening: Lens::MAX_OPENING + 1, ..greatest },
+            Lens { focal: Lens::MAX_FOCAL + 1, ..greatest },
+            Lens { focus: Lens::MAX_FOCUS + 1, ..greatest },
+            Lens { pitch: Lens::MAX_PITCH + 1, ..greatest },
+        ] {
+            assert_eq!(fill(wrong, 1, 0), Err(Refusal::Lens), "{wrong:?}");
+        }
+        assert_eq!(fill(LENS, Pixel::MAX_VALUE + 1, 0), Err(Refusal::Value));
+        assert_eq!(fill(LENS, 1, Layer::MAX_DEPTH + 1), Err(Refusal::Depth));
+    }
+
+    #[test]
+    fn pixels_are_those_that_were_put() {
+        let mut plate = open(4, 3, 6, 100);
+        assert_eq!(plate.undo_capacity(), 100);
+        assert_eq!(plate.pixel(3, 2), Ok(Pixel::EMPTY));
+        let mut before = vec![Pixel::EMPTY];
+        for shape in Shape::ALL {
+            for radius in 0..=shape.top_radius(6) {
+                let value = Pixel::MAX_VALUE - 100 * u16::from(radius);
+                let pixel = Pixel { value, opacity: 255 - radius, shape, radius };
+                plate.put(3, 2, pixel).unwrap();
+                assert_eq!(plate.pixel(3, 2), Ok(pixel));
+                before.push(pixel);
+            }
+        }
+        for pixel in before.into_iter().rev() {
+            assert_eq!(plate.pixel(3, 2), Ok(pixel));
+            let _ = plate.undo();
+        }
+        assert_eq!((plate.undo_count(), plate.undo_capacity()), (0, 100));
+    }
+
+    #[test]
+    fn pixels_are_found_row_by_row() {
+        let mut plate = open(3, 2, 1, 0);
+        let values = [1, 2, 3, 4, 5, 6];
+        let layer = Layer { values: &values, opacities: &[9; 6], depths: &[LENS.focus; 6] };
+        plate.fill(LENS, Shape::Octagon, layer).unwrap();
+        for (place, value) in values.into_iter().enumerate() {
+            let pixel = Pixel { value, opacity: 9, shape: Shape::Octagon, radius: 0 };
+            assert_eq!(plate.pixel(place % 3, place / 3), Ok(pixel));
+        }
+        for (x, y) in [(3, 0), (0, 2), (3, 2), (usize::MAX, 0), (0, usize::MAX)] {
+            assert_eq!(plate.pixel(x, y), Err(Refusal::Place));
+        }
+    }
+
+    /// A put refuses a stored word that is no pixel's, so it tells which words are.
+    #[test]
+    fn words_of_pixels_are_those_that_the_engine_takes() {
+        let mut plate = open(1, 1, 7, 1);
+        let mut damaged = 0;
+        for parts in 0..1 << 13 {
+            plate.pixels[0] = parts << 20 | 254 << 12 | 2_748;
+            let put = plate.put(0, 0, Pixel::EMPTY).and_then(|_| plate.undo());
+            match plate.pixel(0, 0) {
+                Ok(pixel) => {
+                    assert!(put.is_ok(), "{pixel:?}");
+                    assert_eq!((pixel.value, pixel.opacity), (2_748, 254));
+                    let word = u64::from(pixel.shape.number()) | u64::from(pixel.radius) << 4;
+                    assert_eq!(word, parts);
+                }
+                Err(refusal) => {
+                    assert_eq!(refusal, Refusal::StoredWord);
+                    assert_eq!(put, Err(Refusal::StoredWord), "{parts:#x}");
+                    damaged += 1;
+                }
+            }
+        }
+        // Four shapes with radii 0 to 7, tents 0 to 3, triples 0 to 2.
+        assert_eq!(damaged, (1 << 13) - (4 * 8 + 4 + 3));
+    }
+
+    #[test]
+    fn a_number_without_a_name_is_an_error() {
+        let mut plate = open(2, 1, 0, 1);
+        let state = State { width: 9, height: 9, reach: 9, count: 9 };
+        let answer = plate.take(Answer { number: 4_000, marks: 20, state });
+        assert_eq!(answer, Err(Refusal::Other(4_000)));
+        assert_eq!((plate.width(), plate.undo_count()), (2, 0));
+        assert_eq!(plate.take(Answer { number: 0, marks: 20, state }), Ok(20));
+        assert_eq!((plate.width(), plate.undo_count()), (9, 9));
+    }
+
+    #[test]
+    fn a_faint_matte_keeps_its_value() {
+        let mut plate = open(5, 1, 1, 1);
+        let faint = Pixel { value: 100, opacity: 1, shape: Shape::Box, radius: 1 };
+        plate.put(1, 0, faint).unwrap();
+        let shown = plate.show();
+        assert_eq!(shown.values, [100, 100, 100, 0, 0]);
+        assert_eq!(shown.mattes, [0; 5]);
+    }
+
+    #[test]
+    fn plates_are_filled_and_shown_by_threads_at_once() {
+        fn is_shared<T: Send + Sync>() {}
+        is_shared::<Plate>();
+        is_shared::<Canvas>();
+        let painted = |value: u16| {
+            let mut plate = open(40, 30, 9, 0);
+            let depths: Vec<u32> = (0..1_200).map(|place| 15_000 + 10 * place).collect();
+            let layer =
+                Layer { values: &[value; 1_200], opacities: &[200; 1_200], depths: &depths };
+            plate.fill(LENS, Shape::Hexagon, layer).unwrap();
+            (plate.show(), plate.total())
+        };
+        let alone = [1, 20, 300, 4_000].map(painted);
+        let at_once = std::thread::scope(|scope| {
+            let threads = [1, 20, 300, 4_000].map(|value| scope.spawn(move || painted(value)));
+            threads.map(|thread| thread.join().unwrap())
+        });
+        assert_eq!(alone, at_once);
     }
 }

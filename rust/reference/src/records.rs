@@ -13,6 +13,10 @@ const LOG: usize = 64;
 /// The greatest P of the record program's plate.
 const TOP_CELLS: usize = 512;
 
+/// The numbers that stop a run, in the order in which they are checked. Any other is told, and
+/// the run goes on.
+pub const STOPS: [u32; 5] = [13, 14, 15, 1, 16];
+
 enum Record {
     Open { width: usize, height: usize, reach: usize },
     Put(Put),

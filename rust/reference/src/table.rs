@@ -43,7 +43,7 @@ pub const TOP_LOG: usize = 65_535;
 
 /// The numbers that calls refuse with, in the order in which they are checked: 13 to 16 are
 /// the record program's.
-const NUMBERS: [u32; 13] = [1, 2, 3, 4, 5, 6, 7, 8, 9, 10, 11, 12, 17];
+pub const NUMBERS: [u32; 13] = [1, 2, 3, 4, 5, 6, 7, 8, 9, 10, 11, 12, 17];
 
 /// The first number that applies, or 0. Open's sizes come as the state.
 pub fn expected_refusal(call: Call, state: State, plate: Plate) -> u32 {

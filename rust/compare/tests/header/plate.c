@@ -1,14 +1,47 @@
 /* The plate of the paper's section Records, by the C interface, with what it adds up to; then
- * the same puts with kept pictures. Compiled as C and as C++. */
+ * the same puts with kept pictures. Compiled as C and as C++. Each buffer is as long as it must
+ * be and holds what malloc left there, so that a tool which watches memory sees every cell that
+ * is touched outside one, and every answer that comes from a cell nobody wrote. */
 #include "lens.h"
 
 #include <stdio.h>
+#include <stdlib.h>
 
 enum { W = 3, H = 1, R = 1, P = (W + 2 * R + 6) * (H + 2 * R + 6), LOG = 2 };
 
-static uint64_t planes[14 * P], pixels[W * H], undo_log[LOG], scratch[3 * P], sums[2 * W * H];
-static uint16_t values[W * H];
-static uint8_t mattes[W * H];
+static uint64_t *planes, *pixels, *undo_log, *scratch, *sums;
+static uint16_t *values;
+static uint8_t *mattes;
+
+static void *room(size_t size)
+{
+    void *lent = malloc(size);
+    if (lent == NULL)
+        exit(EXIT_FAILURE);
+    return lent;
+}
+
+static void lend(void)
+{
+    planes = (uint64_t *)room(14 * P * sizeof *planes);
+    pixels = (uint64_t *)room(W * H * sizeof *pixels);
+    undo_log = (uint64_t *)room(LOG * sizeof *undo_log);
+    scratch = (uint64_t *)room(3 * P * sizeof *scratch);
+    sums = (uint64_t *)room(2 * W * H * sizeof *sums);
+    values = (uint16_t *)room(W * H * sizeof *values);
+    mattes = (uint8_t *)room(W * H * sizeof *mattes);
+}
+
+static void take_back(void)
+{
+    free(planes);
+    free(pixels);
+    free(undo_log);
+    free(scratch);
+    free(sums);
+    free(values);
+    free(mattes);
+}
 
 static lens_state put(lens_state state, size_t x, uint16_t value, uint8_t radius)
 {
@@ -80,8 +113,9 @@ static lens_state fill(lens_state state, const uint32_t *depths)
 int main(void)
 {
     uint32_t depths[W * H] = { 20000, 20000, 500 };
-    lens_state state =
-        lens_open(W, H, R, planes, 14 * P, pixels, W * H, undo_log, LOG).state;
+    lens_state state;
+    lend();
+    state = lens_open(W, H, R, planes, 14 * P, pixels, W * H, undo_log, LOG).state;
     state = put(state, 1, 100, 1);
     state = put(state, 0, 40, 0);
     state = put(state, 0, 40, 0);
@@ -103,5 +137,6 @@ int main(void)
     state = undo_kept(state, 2 * W * H - 1);
     state = undo_kept(state, 2 * W * H);
     printf("sums %.0f %.0f\n", (double)sums[0], (double)sums[2 * W * H - 1]);
+    take_back();
     return 0;
 }
