@@ -1,5 +1,5 @@
 //! The paper in plain Rust, for engines to be compared with: *Lens plates by sparse marks*, and
-//! where its sequel *After the base: what customers want* says otherwise, that.
+//! where the requests after it, *After the base: what customers want*, say otherwise, those.
 //!
 //! Each module follows one section of the paper in its own words and takes the
 //! slow, obvious way. Pictures are made tap by tap: [`spread`] and [`notebook`]
