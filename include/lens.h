@@ -18,16 +18,18 @@
  *   Together   Planes, pixels, log and state belong together and change through the calls
  *              alone. Before it changes anything, a put looks at the one stored pixel at its
  *              place, and an undo at the last entry of the log and the pixel at its place; if
- *              that is no pixel of this plate, they refuse (10). Nothing else is looked at: no
- *              call notices a damaged cell of the planes, or other damaged pixels, and a show
- *              reads the planes alone, so it shows what they hold. To start over, open anew.
+ *              that is no pixel of this plate, they refuse (10); damage that makes another
+ *              pixel of it is not noticed. Nothing else is looked at: no call notices a damaged
+ *              cell of the planes, or other damaged pixels, and a show reads the planes alone,
+ *              so it shows what they hold. To start over, open anew.
  *
  * A plate has width W and height H, 1 to 4,096 each, W x H at most 2,097,152, and reach R,
  * 0 to 64: how far a kernel may reach. P = (W + 2R + 6) x (H + 2R + 6), the cells of a plane
  * with its margin. Lengths wanted, and the function below that gives each:
  *
  *     planes      14 x P       lens_planes_len    the marks of all pixels
- *     pixels      W x H        lens_pixels_len    the pixels, place y x W + x
+ *     pixels      W x H        lens_pixels_len    the pixels, place y x W + x; lens_pixel_of
+ *                                                 reads one
  *     undo_log    0 to 65,535                     one entry for each put that can be undone
  *     scratch     3 x P        lens_scratch_len   any contents; left all zero by an accepted
  *                                                 show or total
@@ -280,6 +282,21 @@ static inline uint8_t lens_top_radius(uint8_t shape, size_t reach)
     while (radius > 0 && times[shape] * radius > reach)
         radius--;
     return radius;
+}
+
+/* A pixel of the layer. */
+typedef struct { uint16_t value; uint8_t opacity, shape, radius; } lens_pixel;
+
+/* The pixel of a stored word, pixels[y x W + x]; word 0 is the empty pixel. A fill's pixels have
+ * the radius that the lens gave them. */
+static inline lens_pixel lens_pixel_of(uint64_t word)
+{
+    lens_pixel pixel;
+    pixel.value = word & 4095;
+    pixel.opacity = word >> 12 & 255;
+    pixel.shape = word >> 20 & 15;
+    pixel.radius = word >> 24 & 255;
+    return pixel;
 }
 
 /* What a number says, in a sentence without its full stop. */

@@ -13,16 +13,30 @@ pub struct Language {
     pub name: &'static str,
     compiler: &'static str,
     words: &'static [&'static str],
+    warnings: &'static [&'static str],
+    /// For the header by itself: that it is a source, and what only a program may do.
+    alone: &'static [&'static str],
 }
 
-const C: &[&str] = &["-Wstrict-prototypes", "-Wmissing-prototypes", "-Wold-style-definition"];
+pub const C99: Language = Language {
+    name: "c99",
+    compiler: "cc",
+    words: &["-std=c99"],
+    warnings: &["-Wstrict-prototypes", "-Wmissing-prototypes", "-Wold-style-definition"],
+    alone: &["-x", "c"],
+};
 
-pub const C99: Language = Language { name: "c99", compiler: "cc", words: &["-std=c99"] };
-pub const C11: Language = Language { name: "c11", compiler: "cc", words: &["-std=c11"] };
+pub const C11: Language = Language { name: "c11", words: &["-std=c11"], ..C99 };
 
-/// As C++ the same sources are compiled, so its compiler is told what they are.
-pub const CPP: Language =
-    Language { name: "c++11", compiler: "g++", words: &["-x", "c++", "-std=c++11"] };
+/// As C++ the same sources are compiled, so its compiler is told what they are; they cast as C
+/// does, and the header does not.
+pub const CPP: Language = Language {
+    name: "c++11",
+    compiler: "g++",
+    words: &["-x", "c++", "-std=c++11"],
+    warnings: &[],
+    alone: &["-Wold-style-cast", "-Wzero-as-null-pointer-constant"],
+};
 
 pub const LANGUAGES: [Language; 3] = [C99, C11, CPP];
 
@@ -67,22 +81,14 @@ impl Watched {
 impl Language {
     fn compile(self, watched: Watched) -> Command {
         let mut command = Command::new(self.compiler);
-        command.args(self.words).args(WARNINGS).args(watched.words());
-        if self.compiler == "cc" {
-            command.args(C);
-        }
+        command.args(self.words).args(WARNINGS).args(self.warnings).args(watched.words());
         command.arg("-I").arg(repository().join("include"));
         command
     }
 
-    /// The header by itself, in which a C++ compiler is to find nothing of C's old ways either.
     pub fn header_alone(self) {
-        let mut command = self.compile(Watched::No);
-        match self.compiler {
-            "cc" => command.args(["-x", "c"]),
-            _ => command.args(["-Wold-style-cast", "-Wzero-as-null-pointer-constant"]),
-        };
-        done(command.arg("-fsyntax-only").arg(repository().join("include/lens.h")));
+        let header = repository().join("include/lens.h");
+        done(self.compile(Watched::No).args(self.alone).arg("-fsyntax-only").arg(header));
     }
 
     /// The object file of a program, in a folder.

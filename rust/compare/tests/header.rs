@@ -5,6 +5,7 @@ use std::fs;
 use std::path::{Path, PathBuf};
 
 use compare::c::{C11, LANGUAGES, Watched};
+use compare::repository;
 
 fn source(name: &str) -> PathBuf {
     Path::new(env!("CARGO_MANIFEST_DIR")).join("tests/header").join(name)
@@ -27,6 +28,13 @@ fn the_header_compiles_by_itself() {
         }
     }
     C11.object(Watched::Sanitized, &source("helpers.c"), &folder);
+}
+
+/// The version of header and workspace is README's.
+#[test]
+fn readme_names_the_version() {
+    let readme = fs::read_to_string(repository().join("README.md")).expect("README.md");
+    assert!(readme.contains(concat!("version ", env!("CARGO_PKG_VERSION"), ".")));
 }
 
 #[cfg(feature = "proved")]
@@ -56,24 +64,23 @@ mod with_engine {
         undo kept 0: 100/28 100/28 100/28\n\
         sums 23767708500 237677085\n";
 
-    #[test]
-    fn a_plate_in_every_language() {
-        let folder = folder("plates");
+    fn in_every_language(name: &str, text: &str) {
+        let folder = folder(name);
         for language in LANGUAGES {
-            let program = language.program(Watched::No, &source("plate.c"), &folder);
-            assert_eq!(done(&mut Command::new(program)), PLATE, "{}", language.name);
+            let program = language.program(Watched::No, &source(name), &folder);
+            assert_eq!(done(&mut Command::new(program)), text, "{}", language.name);
         }
+    }
+
+    #[test]
+    fn a_plate() {
+        in_every_language("plate.c", PLATE);
     }
 
     /// What the header names, limits, measures and says is what the Rust crate does.
     #[test]
-    fn helpers_in_every_language() {
-        let expected = helpers();
-        let folder = folder("helpers");
-        for language in LANGUAGES {
-            let program = language.program(Watched::No, &source("helpers.c"), &folder);
-            assert_eq!(done(&mut Command::new(program)), expected, "{}", language.name);
-        }
+    fn helpers_of_the_header() {
+        in_every_language("helpers.c", &helpers());
     }
 
     #[test]
@@ -113,7 +120,8 @@ mod with_engine {
             }
             text.push('\n');
         }
-        text.push_str("no shape 0\nnothing lent 2 2 2 2 2 2 2 2 2\nno log 0 8 9\nlog 2\n");
+        text.push_str("no shape 0\npixel 2748 254 5 61\npixel 0 0 0 0\n");
+        text.push_str("nothing lent 2 2 2 2 2 2 2 2 2\nno log 0 8 9\nlog 2\n");
         text
     }
 

@@ -2,6 +2,7 @@
 //!
 //! The program is target/bin/lens_records of the repository, or what `LENS_RECORDS` names;
 //! where it is not there, the comparison fails.
+#![cfg(feature = "proved")]
 
 use std::env;
 use std::fs::{self, File};

@@ -62,10 +62,10 @@ pub enum Refusal {
     /// A depth that is not 0, infinity, and not above the lens's focal length: look whether
     /// depths are in 0.1 mm, as the lens is, and bring nearer ones to focal + 1.
     DepthInside,
-    /// A number that this crate has no name for, because the archive that is linked is newer:
-    /// look the number up in the `lens.h` that belongs to the archive, and take the crate of
-    /// the same repository. It stands for unnamed numbers only; [`Refusal::from_number`] never
-    /// gives it for one that has a name.
+    /// A number that this crate has no name for, because the archive that is linked is of
+    /// another version: look the number up in the `lens.h` that belongs to the archive, and
+    /// take the crate of the same repository. It stands for unnamed numbers only;
+    /// [`Refusal::from_number`] never gives it for one that has a name.
     Other(u32),
 }
 
@@ -89,7 +89,8 @@ macro_rules! table {
                 match self {
                     $(Refusal::$name => $text,)*
                     Refusal::Other(_) => {
-                        "a number that this crate has no name for: the archive linked is newer"
+                        "a number that this crate has no name for: the archive is of another \
+                         version"
                     }
                 }
             }
@@ -189,7 +190,7 @@ mod tests {
             assert_eq!(refusal.to_string(), said);
         }
         let said = "refused (4000000000): a number that this crate has no name for: \
-                    the archive linked is newer";
+                    the archive is of another version";
         assert_eq!(Refusal::Other(4_000_000_000).to_string(), said);
     }
 

@@ -80,6 +80,25 @@ static void print_tops(void)
     printf("no shape %u\n", (unsigned)lens_top_radius(LENS_OCTAGON + 1, LENS_MAX_REACH));
 }
 
+static void print_pixel(uint64_t word)
+{
+    const lens_pixel pixel = lens_pixel_of(word);
+    printf("pixel %u %u %u %u\n", (unsigned)pixel.value, (unsigned)pixel.opacity,
+           (unsigned)pixel.shape, (unsigned)pixel.radius);
+}
+
+/* A pixel that was put, and one that was not. */
+static void print_pixels(void)
+{
+    const size_t planes_len = lens_planes_len(3, 1, 64);
+    lens_state state =
+        lens_open(3, 1, 64, planes, planes_len, pixels, 3, undo_log, LOG).state;
+    lens_put(state, 1, 0, 2748, 254, LENS_OCTAGON, 61, planes, planes_len, pixels, 3, undo_log,
+             LOG);
+    print_pixel(pixels[1]);
+    print_pixel(pixels[2]);
+}
+
 /* Every call with a lawful state and NULL for each buffer. */
 static void print_nothing_lent(void)
 {
@@ -129,6 +148,7 @@ int main(void)
     print_taken(7, 1, 64);
     print_taken(2, 3, 5);
     print_tops();
+    print_pixels();
     print_nothing_lent();
     print_no_log();
     /* With math.h's own log beside the header's names. */
