@@ -44,7 +44,7 @@ impl Sharp {
         let mut plate = Plate::builder(width, height).reach(REACH).undo_steps(0).open()?;
         let Sharp { values, opacities, depths } = self;
         plate.fill(LENS, shape, Layer { values, opacities, depths })?;
-        Ok(plate.show())
+        plate.show()
     }
 }
 

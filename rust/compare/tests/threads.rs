@@ -1,39 +1,12 @@
-//! Calls that may run at once: on different plates, and shows and totals of one plate, each with
-//! a scratch of its own.
+//! Shows and totals of one plate may run at once, each with a scratch of its own.
 #![cfg(feature = "proved")]
 
 use std::thread;
 
 use lens::raw::{self, State};
-use lens::{Pictures, Pixel, Plate, Refusal, Shape};
 
-const THREADS: u16 = 8;
+const THREADS: usize = 8;
 const ROUNDS: usize = 40;
-
-fn painted(value: u16) -> Result<Plate, Refusal> {
-    let mut plate = Plate::builder(40, 30).reach(12).undo_steps(50).open()?;
-    for i in 0..30 {
-        let shape = Shape::ALL[i % 6];
-        let radius = shape.top_radius(plate.reach());
-        plate.put(i, i, Pixel { value, opacity: 200, shape, radius })?;
-    }
-    Ok(plate)
-}
-
-#[test]
-fn plates_at_once() -> Result<(), Refusal> {
-    let alone: Vec<Pictures> =
-        (0..THREADS).map(|i| Ok(painted(i)?.show())).collect::<Result<_, Refusal>>()?;
-    thread::scope(|scope| {
-        let at_once: Vec<_> = (0..THREADS)
-            .map(|i| scope.spawn(move || painted(i).map(|mut plate| plate.show())))
-            .collect();
-        for (shown, alone) in at_once.into_iter().zip(&alone) {
-            assert_eq!(shown.join().expect("no thread panics").as_ref(), Ok(alone));
-        }
-    });
-    Ok(())
-}
 
 /// A small plate by the C interface: its state and its planes.
 fn raw_plate() -> (State, Vec<u64>) {

@@ -37,7 +37,7 @@ fn main() -> Result<(), Box<dyn Error>> {
     let mut sheet = Sheet::new(WIDTH, HEIGHT, 4);
 
     let before = see_shapes(&mut plate, &scene, &folder, &mut sheet)?;
-    let mut canvas = plate.paint();
+    let mut canvas = plate.paint()?;
     let painted = paint(&mut canvas, &stroke)?;
     see_stroke(canvas.pictures(), &before, &folder, &mut sheet)?;
     painted.tell();
@@ -75,14 +75,14 @@ fn see_shapes(
     sheet.add("its depth, near is bright", scene.depth_picture());
 
     let shapes = ["box", "tent", "triple", "diamond", "hexagon", "octagon"];
-    let total = plate.total();
+    let total = plate.total()?;
     let mut shown = sharp;
     for (shape, name) in Shape::ALL.into_iter().zip(shapes) {
         plate.fill(LENS, shape, scene.layer())?;
-        if plate.total() != total {
+        if plate.total()? != total {
             return Err(format!("the {name} makes or loses light").into());
         }
-        shown = plate.show();
+        shown = plate.show()?;
         write_pair(folder, name, &shown)?;
         sheet.add(name, Gray::of_values(&shown.values));
     }
@@ -137,7 +137,7 @@ fn paint(canvas: &mut Canvas, stroke: &[Dab]) -> Result<Painted, Box<dyn Error>>
     let dab = start.elapsed() / stroke.len() as u32;
     let mut plate = canvas.plate().clone();
     let start = Instant::now();
-    let shown = plate.show();
+    let shown = plate.show()?;
     let show = start.elapsed();
     if *canvas.pictures() != shown {
         return Err("the pictures under the brush are not those of a show".into());
@@ -149,7 +149,7 @@ fn paint(canvas: &mut Canvas, stroke: &[Dab]) -> Result<Painted, Box<dyn Error>>
 fn see_sharp(plate: &mut Plate, scene: &Scene) -> Result<Pictures, Refusal> {
     let depths = vec![FOCUS; WIDTH * HEIGHT];
     plate.fill(LENS, Shape::Box, Layer { depths: &depths, ..scene.layer() })?;
-    Ok(plate.show())
+    plate.show()
 }
 
 fn write_pair(folder: &Path, name: &str, shown: &Pictures) -> Result<(), Box<dyn Error>> {

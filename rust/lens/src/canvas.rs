@@ -23,14 +23,14 @@ use crate::shape::Shape;
 /// use lens::{Pixel, Plate, Refusal, Shape};
 ///
 /// let plate = Plate::builder(3, 1).reach(1).undo_steps(2).open()?;
-/// let mut canvas = plate.paint();
+/// let mut canvas = plate.paint()?;
 /// canvas.put(1, 0, Pixel { value: 100, opacity: 255, shape: Shape::Box, radius: 1 })?;
 /// assert_eq!(canvas.pictures().mattes, [28, 28, 28]);
 /// canvas.put(0, 0, Pixel { value: 40, opacity: 255, shape: Shape::Box, radius: 0 })?;
 /// assert_eq!(canvas.pictures().values, [46, 100, 100]);
 /// canvas.undo()?;
 /// assert_eq!(canvas.pictures().values, [100, 100, 100]);
-/// assert_eq!(canvas.into_plate().show().values, [100, 100, 100]);
+/// assert_eq!(canvas.into_plate().show()?.values, [100, 100, 100]);
 /// # Ok::<(), Refusal>(())
 /// ```
 ///
@@ -38,13 +38,13 @@ use crate::shape::Shape;
 ///
 /// ```
 /// # use lens::{Pixel, Plate, Refusal};
-/// # let canvas = Plate::builder(3, 1).reach(1).undo_steps(2).open()?.paint();
+/// # let canvas = Plate::builder(3, 1).reach(1).undo_steps(2).open()?.paint()?;
 /// assert_eq!(canvas.plate().pixel(1, 0), Ok(Pixel::EMPTY));
 /// # Ok::<(), Refusal>(())
 /// ```
 ///
 /// ```compile_fail,E0596
-/// # let mut canvas = lens::Plate::builder(3, 1).open().unwrap().paint();
+/// # let mut canvas = lens::Plate::builder(3, 1).open().unwrap().paint().unwrap();
 /// canvas.plate().undo();
 /// ```
 #[derive(Clone)]
@@ -58,14 +58,14 @@ pub struct Canvas {
 impl Plate {
     /// Shows the plate, and from now on keeps what it shows beside it.
     ///
-    /// # Panics
-    /// As [`Plate::show`] does.
-    pub fn paint(mut self) -> Canvas {
+    /// # Errors
+    /// Those of [`Plate::show`].
+    pub fn paint(mut self) -> Result<Canvas, Refusal> {
         let cells = self.width() * self.height();
         let mut sums = vec![0; 2 * cells];
         let mut pictures = Pictures { values: vec![0; cells], mattes: vec![0; cells] };
-        self.show_kept(&mut sums, &mut pictures);
-        Canvas { plate: self, sums, pictures }
+        self.show_kept(&mut sums, &mut pictures)?;
+        Ok(Canvas { plate: self, sums, pictures })
     }
 }
 
@@ -87,9 +87,9 @@ impl Canvas {
 
     /// Like [`Plate::total`].
     ///
-    /// # Panics
-    /// As [`Plate::total`] does.
-    pub fn total(&mut self) -> Totals {
+    /// # Errors
+    /// Those of [`Plate::total`].
+    pub fn total(&mut self) -> Result<Totals, Refusal> {
         self.plate.total()
     }
 
@@ -113,14 +113,10 @@ impl Canvas {
     /// Like [`Plate::fill`], and shows the plate anew.
     ///
     /// # Errors
-    /// Those of [`Plate::fill`].
-    ///
-    /// # Panics
-    /// As [`Plate::show`] does.
+    /// Those of [`Plate::fill`] and of [`Plate::show`].
     pub fn fill(&mut self, lens: Lens, shape: Shape, layer: Layer) -> Result<(), Refusal> {
         self.plate.fill(lens, shape, layer)?;
-        self.plate.show_kept(&mut self.sums, &mut self.pictures);
-        Ok(())
+        self.plate.show_kept(&mut self.sums, &mut self.pictures)
     }
 }
 
@@ -138,7 +134,7 @@ mod tests {
 
     /// The pictures that are kept, after making sure that they are those of a show.
     fn shown(canvas: &Canvas) -> Pictures {
-        let pictures = canvas.plate().clone().show();
+        let pictures = canvas.plate().clone().show().unwrap();
         assert_eq!(*canvas.pictures(), pictures);
         pictures
     }
@@ -155,14 +151,14 @@ mod tests {
     fn pictures_follow_every_call() {
         let mut plate = open(7, 5, 6, 20);
         plate.put(6, 4, pixel(Shape::Tent, 3)).unwrap();
-        let mut canvas = plate.paint();
+        let mut canvas = plate.paint().unwrap();
         let mut before = vec![shown(&canvas)];
         for (x, shape) in Shape::ALL.into_iter().enumerate() {
             canvas.put(x, 2, pixel(shape, 2)).unwrap();
             assert_eq!(canvas.plate().pixel(x, 2), Ok(pixel(shape, 2)));
             before.push(shown(&canvas));
             let matte = Totals::WHOLE * 200 * before.len() as u64;
-            assert_eq!(canvas.total(), Totals { matte, light: 1_000 * matte });
+            assert_eq!(canvas.total(), Ok(Totals { matte, light: 1_000 * matte }));
         }
         for pictures in before.iter().rev() {
             assert_eq!(shown(&canvas), *pictures);
@@ -174,7 +170,7 @@ mod tests {
 
     #[test]
     fn a_refused_call_leaves_the_pictures() {
-        let mut canvas = open(4, 4, 3, 1).paint();
+        let mut canvas = open(4, 4, 3, 1).paint().unwrap();
         canvas.put(1, 1, pixel(Shape::Octagon, 3)).unwrap();
         let before = shown(&canvas);
         assert_eq!(canvas.put(1, 1, pixel(Shape::Box, 4)), Err(Refusal::Radius));
@@ -187,7 +183,7 @@ mod tests {
 
     #[test]
     fn a_fill_is_shown_anew() {
-        let mut canvas = open(4, 4, 3, 1).paint();
+        let mut canvas = open(4, 4, 3, 1).paint().unwrap();
         canvas.put(3, 0, pixel(Shape::Diamond, 3)).unwrap();
         let layer = Layer { values: &[7; 16], opacities: &[255; 16], depths: &[20_000; 16] };
         canvas.fill(LENS, Shape::Hexagon, layer).unwrap();
@@ -195,13 +191,13 @@ mod tests {
         canvas.put(0, 0, pixel(Shape::Box, 3)).unwrap();
         let painted = shown(&canvas);
         let mut plate = canvas.into_plate();
-        assert_eq!(plate.show(), painted);
+        assert_eq!(plate.show(), Ok(painted));
         assert_eq!(plate.undo_count(), 1);
     }
 
     #[test]
     fn the_documented_memory() {
-        let canvas = open(7, 5, 6, 20).paint();
+        let canvas = open(7, 5, 6, 20).paint().unwrap();
         let Canvas { sums, pictures: Pictures { values, mattes }, .. } = &canvas;
         let kept = size_of_val(&sums[..]) + size_of_val(&values[..]) + size_of_val(&mattes[..]);
         assert_eq!(kept, 19 * 7 * 5);

@@ -18,7 +18,7 @@
 //! let mut plate = Plate::builder(3, 1).reach(1).undo_steps(2).open()?;
 //! plate.put(1, 0, Pixel { value: 100, opacity: 255, shape: Shape::Box, radius: 1 })?;
 //! plate.put(0, 0, Pixel { value: 40, opacity: 255, shape: Shape::Box, radius: 0 })?;
-//! let shown = plate.show();
+//! let shown = plate.show()?;
 //! assert_eq!(shown.values, [46, 100, 100]);
 //! assert_eq!(shown.mattes, [255, 28, 28]);
 //!
@@ -28,7 +28,7 @@
 //! assert_eq!(Refusal::LogFull.to_string(), "refused (8): the undo log is full");
 //!
 //! plate.undo()?;
-//! assert_eq!(plate.show().values, [100, 100, 100]);
+//! assert_eq!(plate.show()?.values, [100, 100, 100]);
 //! # Ok::<(), Refusal>(())
 //! ```
 

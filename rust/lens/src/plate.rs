@@ -54,6 +54,9 @@ impl Totals {
 
 /// A plate with its buffers. Calls that return a [`Refusal`] have changed nothing.
 ///
+/// No call panics. That show and total of a plate are accepted is a theorem; where they return
+/// an error all the same, the archive that is linked is not the one this crate was written for.
+///
 /// # Threads
 ///
 /// A plate is [`Send`] and [`Sync`]. The engine keeps nothing of its own, so calls on
@@ -161,7 +164,8 @@ impl Plate {
         if x >= width || y >= height {
             return Err(Refusal::Place);
         }
-        Pixel::from_word(self.pixels[y * width + x], reach).ok_or(Refusal::StoredWord)
+        let word = self.pixels.get(y * width + x);
+        word.and_then(|&word| Pixel::from_word(word, reach)).ok_or(Refusal::StoredWord)
     }
 
     /// Sets one pixel, remembers the old one in the undo log, and tells how many marks
@@ -223,15 +227,13 @@ impl Plate {
     /// The pictures of the pixels that stand there now, to the nearest code value: a value
     /// half way between two goes to the even one, a matte upwards.
     ///
-    /// # Panics
-    /// Only if the archive that is linked is not the one this crate was written for: that the
-    /// engine accepts it is a theorem.
-    pub fn show(&mut self) -> Pictures {
+    /// # Errors
+    /// None, with the archive that this crate was written for.
+    pub fn show(&mut self) -> Result<Pictures, Refusal> {
         let cells = self.state.width * self.state.height;
         let mut pictures = Pictures { values: vec![0; cells], mattes: vec![0; cells] };
-        self.show_into(&mut pictures.values, &mut pictures.mattes)
-            .expect("both pictures have the plate's size");
-        pictures
+        self.show_into(&mut pictures.values, &mut pictures.mattes)?;
+        Ok(pictures)
     }
 
     /// Like [`Plate::show`], into pictures of the caller's.
@@ -257,25 +259,29 @@ impl Plate {
     /// plate.put(0, 0, Pixel { value: 40, opacity: 51, shape: Shape::Box, radius: 0 })?;
     /// let matte = Totals::WHOLE * (255 + 51);
     /// let light = Totals::WHOLE * (255 * 100 + 51 * 40);
-    /// assert_eq!(plate.total(), Totals { matte, light });
+    /// assert_eq!(plate.total()?, Totals { matte, light });
     /// # Ok::<(), Refusal>(())
     /// ```
     ///
-    /// # Panics
-    /// Only if the archive that is linked is not the one this crate was written for: that the
-    /// engine accepts it is a theorem.
-    pub fn total(&mut self) -> Totals {
+    /// # Errors
+    /// None, with the archive that this crate was written for.
+    pub fn total(&mut self) -> Result<Totals, Refusal> {
         let totals = raw::total(self.state, &self.planes, &mut self.scratch);
-        self.take(totals.answer).expect("planes and scratch have the plate's size");
-        Totals { matte: totals.matte, light: totals.light }
+        self.take(totals.answer)?;
+        Ok(Totals { matte: totals.matte, light: totals.light })
     }
 
     /// Show into pictures and sums of the plate's size.
-    pub(crate) fn show_kept(&mut self, sums: &mut [u64], pictures: &mut Pictures) {
+    pub(crate) fn show_kept(
+        &mut self,
+        sums: &mut [u64],
+        pictures: &mut Pictures,
+    ) -> Result<(), Refusal> {
         let Plate { state, planes, scratch, .. } = self;
         let Pictures { values, mattes } = pictures;
         let answer = raw::show_kept(*state, planes, scratch, values, mattes, sums);
-        self.take(answer).expect("sums and pictures have the plate's size");
+        self.take(answer)?;
+        Ok(())
     }
 
     /// Put that mends sums and pictures of the plate's size.
@@ -365,7 +371,7 @@ mod tests {
         assert_eq!(plate.fill(LENS, Shape::Box, layer), Err(Refusal::Lengths));
         let layer = Layer { depths: &[20_000; 4], ..layer };
         assert_eq!(plate.fill(LENS, Shape::Box, layer), Ok(()));
-        assert_eq!(plate.show().values, [7; 4]);
+        assert_eq!(plate.show().unwrap().values, [7; 4]);
     }
 
     #[test]
@@ -375,7 +381,7 @@ mod tests {
             let depths = [20_000, depth];
             let layer = Layer { values: &[value; 2], opacities: &[255; 2], depths: &depths };
             let answer = plate.fill(LENS, Shape::Octagon, layer);
-            (answer, plate.show().values)
+            (answer, plate.show().unwrap().values)
         };
         assert_eq!(fill(7, 0), (Ok(()), vec![7; 2]));
         for depth in [1, 499, 500] {
@@ -495,7 +501,7 @@ mod tests {
         let mut plate = open(5, 1, 1, 1);
         let faint = Pixel { value: 100, opacity: 1, shape: Shape::Box, radius: 1 };
         plate.put(1, 0, faint).unwrap();
-        let shown = plate.show();
+        let shown = plate.show().unwrap();
         assert_eq!(shown.values, [100, 100, 100, 0, 0]);
         assert_eq!(shown.mattes, [0; 5]);
     }

@@ -141,7 +141,8 @@ mod tests {
                 let mut plate = Plate::builder(21, 21).reach(9).undo_steps(1).open().unwrap();
                 let pixel = Pixel { value: 7, opacity: 255, shape, radius };
                 plate.put(10, 10, pixel).unwrap();
-                for (place, &value) in (0..).zip(&plate.show().values) {
+                let shown = plate.show().unwrap();
+                for (place, &value) in (0..).zip(&shown.values) {
                     let (dx, dy) = (place % 21 - MIDDLE, place / 21 - MIDDLE);
                     let seen = has_tap(shape, radius.into(), dx, dy);
                     assert_eq!(value == 7, seen, "{shape:?} {radius} at {dx}, {dy}");
