@@ -126,6 +126,14 @@ pub fn done(command: &mut Command) -> String {
     String::from_utf8(output.stdout).expect("a program writes text")
 }
 
+/// A program on its way. The sanitizers' look for leaks asks the system for more than a sandbox
+/// may give; valgrind looks for them.
+pub fn start(program: &Path) -> Command {
+    let mut command = Command::new(program);
+    command.env("ASAN_OPTIONS", "detect_leaks=0");
+    command
+}
+
 /// valgrind before a program, where it is installed: any finding, a leak too, is a failure.
 pub fn valgrind(program: &Path) -> Option<Command> {
     Command::new("valgrind").arg("--version").output().ok()?;

@@ -6,7 +6,7 @@ use std::fs;
 use std::path::{Path, PathBuf};
 use std::process::Command;
 
-use compare::c::{C11, C99, Watched, archive_folder, done, valgrind};
+use compare::c::{C11, C99, Watched, archive_folder, done, start, valgrind};
 use compare::{repository, say};
 use reference::notebook::Notebook;
 use reference::spread::{Pictures, pictures};
@@ -95,7 +95,7 @@ fn assert_written(folder: &Path, when: &str, pictures: &Pictures) {
 #[test]
 fn readme_builds_it_and_its_pictures_are_plain_spreading() {
     let written = folder("painted");
-    let said = done(Command::new(built_by_readme()).arg(&written));
+    let said = done(start(&built_by_readme()).arg(&written));
     assert_eq!(said, SAID);
     let mut notebook = layer();
     let before = pictures(&notebook.grid);
@@ -114,7 +114,7 @@ fn watched() {
     let written = folder("paint/pictures");
     for language in [C99, C11] {
         let sanitized = language.program(Watched::Sanitized, &source, &built);
-        assert_eq!(done(Command::new(sanitized).arg(&written)), SAID);
+        assert_eq!(done(start(&sanitized).arg(&written)), SAID);
     }
     match valgrind(&C11.program(Watched::No, &source, &built)) {
         Some(mut command) => assert_eq!(done(command.arg(&written)), SAID),

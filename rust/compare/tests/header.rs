@@ -40,9 +40,8 @@ fn readme_names_the_version() {
 #[cfg(feature = "proved")]
 mod with_engine {
     use std::fmt::Write;
-    use std::process::Command;
 
-    use compare::c::{C11, LANGUAGES, Watched, done, valgrind};
+    use compare::c::{C11, LANGUAGES, Watched, done, start, valgrind};
     use compare::say;
     use lens::{Layer, Lens, Pixel, Plate, Refusal, Shape, Totals};
 
@@ -68,7 +67,7 @@ mod with_engine {
         let folder = folder(name);
         for language in LANGUAGES {
             let program = language.program(Watched::No, &source(name), &folder);
-            assert_eq!(done(&mut Command::new(program)), text, "{}", language.name);
+            assert_eq!(done(&mut start(&program)), text, "{}", language.name);
         }
     }
 
@@ -88,7 +87,7 @@ mod with_engine {
         let folder = folder("watched");
         for (name, text) in [("plate.c", PLATE.to_string()), ("helpers.c", helpers())] {
             let sanitized = C11.program(Watched::Sanitized, &source(name), &folder);
-            assert_eq!(done(&mut Command::new(sanitized)), text);
+            assert_eq!(done(&mut start(&sanitized)), text);
             let plain = C11.program(Watched::No, &source(name), &folder);
             match valgrind(&plain) {
                 Some(mut command) => assert_eq!(done(&mut command), text),

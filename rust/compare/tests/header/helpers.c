@@ -1,5 +1,6 @@
 /* What lens.h has beside the engine's calls, held against the engine: names, limits, lengths,
- * top radii and texts; and buffers of length 0, which may be NULL. Compiled as C and as C++. */
+ * top radii, stored pixels and texts; and buffers of length 0, which may be NULL. Compiled as C
+ * and as C++. */
 #include "lens.h"
 
 #include <math.h>
