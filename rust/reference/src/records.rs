@@ -3,7 +3,7 @@
 use std::fmt::Write;
 
 use crate::marks::Layout;
-use crate::notebook::Notebook;
+use crate::notebook::{Notebook, Report};
 use crate::table::sizes_outside;
 use crate::{Put, State};
 
@@ -13,8 +13,8 @@ const LOG: usize = 64;
 /// The greatest P of the record program's plate.
 const TOP_CELLS: usize = 512;
 
-/// The numbers that stop a run, in the order in which they are checked. Any other is told, and
-/// the run goes on.
+/// The numbers that stop a run, in the order in which they are checked. After any other the run
+/// goes on.
 pub const STOPS: [u32; 5] = [13, 14, 15, 1, 16];
 
 enum Record {
@@ -33,20 +33,19 @@ pub fn text(mut input: &[u8]) -> String {
         count += 1;
         let done =
             take_record(&mut input).and_then(|record| run(record, &mut notebook, &mut text));
-        match done {
-            Ok(0) => {}
-            Ok(number) => writeln!(text, "refused {number} at {count}").unwrap(),
-            Err(number) => {
+        if let Err(number) = done {
+            if STOPS.contains(&number) {
                 writeln!(text, "stopped {number} at {count}").unwrap();
                 return text;
             }
+            writeln!(text, "refused {number} at {count}").unwrap();
         }
     }
     writeln!(text, "done {count}").unwrap();
     text
 }
 
-/// Takes one record off the input, or tells the number that stops the run: 13 or 14.
+/// Takes one record off the input, or tells the number that there is none with: 13 or 14.
 fn take_record(input: &mut &[u8]) -> Result<Record, u32> {
     let (&kind, rest) = input.split_first().expect("a record has a kind");
     let length = match kind {
@@ -75,21 +74,25 @@ fn take_record(input: &mut &[u8]) -> Result<Record, u32> {
     })
 }
 
-/// Runs one record. `Ok` tells the number of a refusal to go on from, or 0; `Err` one that stops.
-fn run(record: Record, notebook: &mut Option<Notebook>, text: &mut String) -> Result<u32, u32> {
+/// Runs one record, or tells the number that it is refused by.
+fn run(record: Record, notebook: &mut Option<Notebook>, text: &mut String) -> Result<(), u32> {
     match (record, notebook.as_mut()) {
         (Record::Open { width, height, reach }, None) => {
             *notebook = Some(open(width, height, reach)?);
-            Ok(0)
+            Ok(())
         }
         (Record::Open { .. }, Some(_)) | (_, None) => Err(15),
-        (Record::Put(put), Some(notebook)) => Ok(notebook.put(put).number),
-        (Record::Undo, Some(notebook)) => Ok(notebook.undo().number),
+        (Record::Put(put), Some(notebook)) => accepted(notebook.put(put)),
+        (Record::Undo, Some(notebook)) => accepted(notebook.undo()),
         (Record::Show, Some(notebook)) => {
             print_plate(notebook, text);
-            Ok(0)
+            Ok(())
         }
     }
+}
+
+fn accepted(report: Report) -> Result<(), u32> {
+    if report.number == 0 { Ok(()) } else { Err(report.number) }
 }
 
 fn open(width: usize, height: usize, reach: usize) -> Result<Notebook, u32> {
