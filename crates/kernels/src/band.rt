@@ -1,30 +1,14 @@
 // The rows of a kernel: what a pixel of opacity 1 adds to each cell of a row, without the kernel's marks.
-ghost use mathlib.Core.Path.{_≡_};
-ghost use Prim.Native.Nat.{_+_, _*_, _-_, _≤_, _<_};
-ghost use Rattle.kernels.specs.Choice.{within, same};
-ghost use Rattle.kernels.specs.Tap.{boxTap};
-ghost use Rattle.kernels.specs.code.Bands.{heightOf, rowRadius, bandFor, bandWeight, isLevel};
-use crate::shape::Shape;
 use crate::shape::boxes;
 use crate::shape::top;
-use crate::share::Share;
-
-// One row of a kernel: the taps of some boxes convolved on one axis, times the row's own tap; what a tap is worth, and what the
-// middle has besides.
-pub struct Band {
-    // says how many boxes: 1 for shapes of ones
-    pub shape: Shape,
-    // the radius of these boxes
-    pub radius: u8,
-    // the cells from the middle on that have a tap other than 0
-    pub span: usize,
-    // the row's own tap; 0 where the row has none
-    pub own: u8,
-    // the share
-    pub each: u32,
-    // the remainder in the kernel's middle row, else 0
-    pub rest: u32,
-}
+use kernels_model::band::Band;
+use kernels_model::shape::Shape;
+use kernels_model::share::Share;
+ghost use mathlib.Core.Path.{_≡_};
+ghost use Prim.Native.Nat.{_+_, _*_, _-_, _≤_, _<_};
+ghost use Rattle.kernels_model.specs.Choice.{within, same};
+ghost use Rattle.kernels_model.specs.Tap.{boxTap};
+ghost use Rattle.kernels_model.specs.Band.{heightOf, rowRadius, bandFor, bandWeight, isLevel};
 
 // a − b, and 0 where b is more.
 pub fn less(a: usize, b: usize) -> usize

@@ -1,20 +1,14 @@
 // The radius from depth, by the thin lens formula in whole numbers.
-use crate::fixed::DEPTH_TOP;
 use crate::rounding::rounded;
+use kernels_model::fixed::DEPTH_TOP;
+use kernels_model::lens::Lens;
+use kernels_model::lens::Radius;
 ghost use mathlib.Core.Path.{_≡_};
 ghost use mathlib.Core.Bool.{true};
 ghost use Prim.Native.Nat.{_≤_};
-ghost use Rattle.kernels.specs.Sum.{dist};
-ghost use Rattle.kernels.specs.Lens.{lawfulLens, blur, radiusTold, radiusFor};
-ghost use Rattle.kernels.specs.Fixed.{depthTop};
-
-// Opening, focal length and focus in 0.1 mm, pitch in 0.1 µm.
-pub struct Lens {
-    pub opening: u32,
-    pub focal: u32,
-    pub focus: u32,
-    pub pitch: u32,
-}
+ghost use Rattle.kernels_model.specs.Sum.{dist};
+ghost use Rattle.kernels_model.specs.Lens.{lawfulLens, blur, radiusTold, radiusFor};
+ghost use Rattle.kernels_model.specs.Fixed.{depthTop};
 
 // The bounds of a lens's numbers.
 const OPENING_TOP: u32 = 4000;
@@ -27,13 +21,6 @@ const PITCH_TOP: u32 = 1000;
 
 // The formula's factor: from 0.1 mm over 0.1 µm to pixels, and from a diameter to its half.
 const LENS_FACTOR: u64 = 500;
-
-// A radius, or why there is none.
-pub enum Radius {
-    Pixels(u8),
-    NoLens,
-    NoDepth,
-}
 
 // Whether a lens can be: each of its numbers in its bounds, and the focus past the focal length.
 pub fn lawful_lens(l: Lens) -> bool

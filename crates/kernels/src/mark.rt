@@ -1,46 +1,17 @@
 // The marks of a kernel, as the plate lays them: a grid of boxes, or two lines by the ends of their pieces.
+use kernels_model::fixed::LEVEL;
+use kernels_model::fixed::MARGIN;
+use kernels_model::fixed::SECOND_BOX;
+use kernels_model::fixed::THIRD_BOX;
+use kernels_model::mark::Boxes;
+use kernels_model::mark::Drawing;
+use kernels_model::mark::Line;
+use kernels_model::mark::Outline;
+use kernels_model::shape::Shape;
 ghost use mathlib.Core.Path.{_≡_};
 ghost use Prim.Native.Nat.{_+_, _*_, _≤_};
-ghost use Rattle.kernels.specs.Fixed.{level};
-ghost use Rattle.kernels.specs.code.Drawing.{outlineOf, drawingOf};
-use crate::fixed::LEVEL;
-use crate::fixed::MARGIN;
-use crate::fixed::SECOND_BOX;
-use crate::fixed::THIRD_BOX;
-use crate::shape::Shape;
-
-// Boxes convolved: count + 1 marks along each axis, a side apart, in one plane.
-pub struct Boxes {
-    pub plane: usize,
-    pub count: usize,
-    pub side: usize,
-}
-
-// The rows of a line: where its first piece starts, where it is level, and a step past its last column.
-pub struct Line {
-    pub edge: usize,
-    pub level: usize,
-    pub past: usize,
-}
-
-// Two lines: the planes of their sloping pieces, whether a level piece lies between them, the columns where the pieces end,
-// and the rows of each line. The diamond's lines have no level piece, and go back where they turn.
-pub struct Outline {
-    pub rising: usize,
-    pub falling: usize,
-    pub flat: bool,
-    pub left: usize,
-    pub turn: usize,
-    pub back: usize,
-    pub right: usize,
-    pub top: Line,
-    pub bottom: Line,
-}
-
-pub enum Drawing {
-    Grid(Boxes),
-    Lines(Outline),
-}
+ghost use Rattle.kernels_model.specs.Fixed.{level};
+ghost use Rattle.kernels_model.specs.Drawing.{outlineOf, drawingOf};
 
 // The ends of the pieces. A first column edge rows high, then rise columns of the given slope, wide level ones, and back.
 fn piece_ends(

@@ -1,10 +1,10 @@
 // Rounding to the nearest: a half upwards, and for the shown value a half to even.
-use crate::fixed::MATTE_TOP;
-use crate::fixed::MATTE_UNIT;
-use crate::fixed::VALUE_TOP;
+use kernels_model::fixed::MATTE_TOP;
+use kernels_model::fixed::MATTE_UNIT;
+use kernels_model::fixed::VALUE_TOP;
 ghost use mathlib.Core.Path.{_≡_};
 ghost use Prim.Native.Nat.{_<_};
-ghost use Rattle.kernels.specs.Rounding.{nearest, nearestEven, shownValue, shownMatte};
+ghost use Rattle.kernels_model.specs.Rounding.{nearest, nearestEven, shownValue, shownMatte};
 
 // a / b to the nearest, a half upwards. Nothing is doubled, so nothing wraps: the rest is at least a half where it is not
 // below what it lacks.

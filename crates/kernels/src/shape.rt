@@ -1,21 +1,9 @@
 // The six shapes of a lens opening.
-use crate::fixed::CENTRE_MARKS;
+use kernels_model::fixed::CENTRE_MARKS;
+use kernels_model::shape::Shape;
+use kernels_model::shape::ShapeRead;
 ghost use mathlib.Core.Path.{_≡_};
-ghost use Rattle.kernels.specs.Shape.{numberOf, shapeTold, shapeFor, boxesOf, topOf, tapCount, countOf, reachOf, topUnder};
-
-pub enum Shape {
-    Box,
-    Tent,
-    Triple,
-    Diamond,
-    Hexagon,
-    Octagon,
-}
-
-pub enum ShapeRead {
-    Known(Shape),
-    Unknown,
-}
+ghost use Rattle.kernels_model.specs.Shape.{numberOf, shapeTold, shapeFor, boxesOf, topOf, tapCount, countOf, reachOf, topUnder};
 
 // The number that stands for a shape outside of this engine.
 pub fn number(s: Shape) -> u8

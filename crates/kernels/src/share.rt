@@ -1,22 +1,16 @@
 // The shares of the kernels and their remainders: out of one table, or worked out.
-ghost use mathlib.Core.Path.{_≡_};
-ghost use Prim.Native.Nat.{_≤_};
-ghost use Rattle.kernels.specs.Shape.{topOf};
-ghost use Rattle.kernels.specs.Tap.{area};
-ghost use Rattle.kernels.specs.Share.{shareParts, shareTable, tableShare};
-use crate::fixed::RADII;
-use crate::fixed::TABLE_ROWS;
-use crate::fixed::UNIT;
-use crate::shape::Shape;
 use crate::shape::number;
 use crate::shape::top;
-
-// What a pixel of opacity 1 adds for each tap, and what it adds at the centre besides: the part that is lost by rounding the share
-// down.
-pub struct Share {
-    pub each: u32,
-    pub rest: u32,
-}
+use kernels_model::fixed::RADII;
+use kernels_model::fixed::TABLE_ROWS;
+use kernels_model::fixed::UNIT;
+use kernels_model::shape::Shape;
+use kernels_model::share::Share;
+ghost use mathlib.Core.Path.{_≡_};
+ghost use Prim.Native.Nat.{_≤_};
+ghost use Rattle.kernels_model.specs.Shape.{topOf};
+ghost use Rattle.kernels_model.specs.Tap.{area};
+ghost use Rattle.kernels_model.specs.Share.{shareParts, shareTable, tableShare};
 
 // The bits of a row's share. Its remainder stands above them.
 const ROW_BITS: u64 = 32;

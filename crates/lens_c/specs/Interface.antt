@@ -1,16 +1,16 @@
 -- The C interface: the plate's calls with C's structs for state, lens, answer and totals.
 use mathlib.Core.List.{List}
 use Prim.Native.Nat.{ℕ}
-use Rattle.kernels.specs.declared.lens.Lens.{Lens}
-use Rattle.plate.specs.declared.state.State.{State}
-use Rattle.plate.specs.declared.state.Answer.{Answer}
-use Rattle.plate.specs.declared.total.Totals.{Totals}
-use Rattle.plate.specs.Refusal.{outcomeNumber}
-use Rattle.plate.specs.Layout.{sizeFrom}
-use Rattle.plate.specs.Lent.{stateOf, Lent, Views, Canvas}
-use Rattle.plate.specs.Calls.{Left, Shown}
-use Rattle.plate.specs.Kept.{Refreshed, ShownKept}
-use Rattle.plate.specs.Total.{Totalled}
+use Rattle.kernels_model.specs.declared.lens.Lens.{Lens}
+use Rattle.plate_model.specs.declared.state.State.{State}
+use Rattle.plate_model.specs.declared.state.Answer.{Answer}
+use Rattle.plate_model.specs.declared.total.Totals.{Totals}
+use Rattle.plate_model.specs.Refusal.{outcomeNumber}
+use Rattle.plate_model.specs.Layout.{sizeFrom}
+use Rattle.plate_model.specs.Lent.{stateOf, Lent, Views, Canvas}
+use Rattle.plate_model.specs.Calls.{Left, Shown}
+use Rattle.plate_model.specs.Kept.{Refreshed, ShownKept}
+use Rattle.plate_model.specs.Total.{Totalled}
 pub use Rattle.lens_c.specs.declared.LensState.{LensState}
 pub use Rattle.lens_c.specs.declared.LensLens.{LensLens}
 pub use Rattle.lens_c.specs.declared.LensAnswer.{LensAnswer}

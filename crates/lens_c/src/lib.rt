@@ -1,16 +1,16 @@
 // The C interface of the plate: the same calls in the same order, a slice as pointer then length. include/lens.h declares it.
-ghost use mathlib.Core.Path.{_≡_};
-ghost use Rattle.plate.specs.Layout.{sizeFrom};
-ghost use Rattle.plate.specs.Lent.{ask, inputs, lentAtEntry, lentAtExit, viewsAtEntry, viewsAtExit, canvasAtEntry, canvasAtExit};
-ghost use Rattle.plate.specs.Calls.{openCall, putCall, undoCall, fillCall, showCall};
-ghost use Rattle.plate.specs.Kept.{putKeptCall, undoKeptCall, showKeptCall};
-ghost use Rattle.plate.specs.Total.{totalCall};
-ghost use Rattle.lens_c.specs.Interface.{stateIn, lensIn, answerOut, leftOut, shownOut, leavesOut, showsOut, refreshedOut, leavesKeptOut, shownKeptOut, showsKeptOut, totalsOut, totalsAndScratch, totalledOut};
-use kernels::Lens;
 use plate::Answer;
+use plate::Lens;
 use plate::Size;
 use plate::State;
 use plate::Totals;
+ghost use mathlib.Core.Path.{_≡_};
+ghost use Rattle.plate_model.specs.Layout.{sizeFrom};
+ghost use Rattle.plate_model.specs.Lent.{ask, inputs, lentAtEntry, lentAtExit, viewsAtEntry, viewsAtExit, canvasAtEntry, canvasAtExit};
+ghost use Rattle.plate_model.specs.Calls.{openCall, putCall, undoCall, fillCall, showCall};
+ghost use Rattle.plate_model.specs.Kept.{putKeptCall, undoKeptCall, showKeptCall};
+ghost use Rattle.plate_model.specs.Total.{totalCall};
+ghost use Rattle.lens_c.specs.Interface.{stateIn, lensIn, answerOut, leftOut, shownOut, leavesOut, showsOut, refreshedOut, leavesKeptOut, shownKeptOut, showsKeptOut, totalsOut, totalsAndScratch, totalledOut};
 
 #[repr(C)]
 pub struct LensState {

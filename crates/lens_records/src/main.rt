@@ -3,25 +3,25 @@
 use libc::STDERR_FILENO;
 use libc::STDIN_FILENO;
 use libc::STDOUT_FILENO;
+use records::Log;
+use records::Machine;
+use records::Mattes;
+use records::Pixels;
+use records::Planes;
+use records::Scratch;
+use records::Text;
+use records::Values;
 use records::advance::advance;
-use records::fixed::CELLS;
-use records::fixed::LOG;
-use records::fixed::Log;
-use records::fixed::Mattes;
-use records::fixed::PLANE_CELLS;
-use records::fixed::Pixels;
-use records::fixed::Planes;
-use records::fixed::SCRATCH_CELLS;
-use records::fixed::Scratch;
-use records::fixed::Text;
-use records::fixed::Values;
-use records::machine::Machine;
+use records_model::fixed::CELLS;
+use records_model::fixed::LOG;
+use records_model::fixed::PLANE_CELLS;
+use records_model::fixed::SCRATCH_CELLS;
 ghost use Prim.Native.Nat.{_≤_};
 ghost use lib.ListN.{length};
 ghost use mathlib.Core.Path.{_≡_};
 ghost use mathlib.Core.Bool.{true};
-ghost use Rattle.records.specs.Machine.{atEntry, atExit};
-ghost use Rattle.lens_records.specs.code.Feeding.{FedTo, FedFront};
+ghost use Rattle.records_model.specs.Machine.{atEntry, atExit};
+ghost use Rattle.lens_records.specs.Feeding.{FedTo, FedFront};
 
 // A call of advance, its text written: the machine, how many bytes were taken, and whether the write went well.
 struct Told {

@@ -2,8 +2,6 @@ pub mod numbers
 pub mod checks
 pub mod words
 pub mod laying
-pub mod changing
 pub mod mending
 pub mod filling
 pub mod showing
-pub mod demands

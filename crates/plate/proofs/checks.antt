@@ -1,8 +1,4 @@
--- Answers by rows of the table of refusals, that each check keeps to its row, what checks in a row say, and what a call may count
--- on when they accept.
-pub mod Rows
-pub mod Conditions
+-- What checks in a row say, what the code may count on when they accept, and lists scanned for a number that passes a test.
 pub mod Chains
-pub mod Passed
-pub mod Accepted
+pub mod Counted
 pub mod Scans

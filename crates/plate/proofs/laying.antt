@@ -1,5 +1,3 @@
--- Marks laid in the planes: what a cell then holds, and that the code's drawing is the pixel's marks.
-pub mod LaidCells
+-- Marks laid by the code: what a mark is worth, and that the code's drawing is the pixel's marks.
 pub mod Worths
-pub mod Cells
 pub mod Corners

@@ -1,6 +1,5 @@
 -- Cells that are mended one after the other, row by row, and all of them at the end.
 pub mod Gives
-pub mod Reached
 pub mod Mended
 pub mod Rows
 pub mod Runs

@@ -1,5 +1,3 @@
--- Numbers that wrap, bounds of a plate's products, and laws of lists.
+-- Numbers that wrap, and a part of a list that is cleared.
 pub mod Wraps
-pub mod Extents
-pub mod Lists
 pub mod Parts

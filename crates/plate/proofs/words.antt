@@ -1,4 +1,2 @@
--- The pixel word and the log entry: what is packed is read back, and what is stored is read where it breaks nothing.
+-- Fields of a word.
 pub mod Fields
-pub mod Words
-pub mod Stored

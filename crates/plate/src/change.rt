@@ -1,36 +1,23 @@
 // What a put or an undo is to change, read before anything is touched.
 use crate::check::check_put;
 use crate::check::check_undo;
-use crate::lent::Ask;
-use crate::lent::Sized;
-use crate::state::Outcome;
-use crate::state::Refusal;
-use crate::state::State;
-use crate::word::EntryRead;
-use crate::word::Pixel;
-use crate::word::Unpacked;
 use crate::word::unpack;
 use crate::word::unpack_entry;
 use kernels::ShapeRead;
+use plate_model::change::Change;
+use plate_model::change::ChangeRead;
+use plate_model::lent::Ask;
+use plate_model::lent::Sized;
+use plate_model::state::Outcome;
+use plate_model::state::Refusal;
+use plate_model::state::State;
+use plate_model::word::EntryRead;
+use plate_model::word::Pixel;
+use plate_model::word::Unpacked;
 ghost use mathlib.Core.Path.{_≡_};
 ghost use lib.ListN.{length};
-ghost use Rattle.plate.specs.Lent.{sized};
-ghost use Rattle.plate.specs.Change.{putRead, undoRead};
-
-// A place with its column and row, the pixel that stands there, and the one that is to come.
-pub struct Change {
-    pub place: usize,
-    pub x: usize,
-    pub y: usize,
-    pub old: Pixel,
-    pub new: Pixel,
-}
-
-// What a call is to change, or why it is refused.
-pub enum ChangeRead {
-    ToChange(Change),
-    NoChange(Refusal),
-}
+ghost use Rattle.plate_model.specs.Lent.{sized};
+ghost use Rattle.plate_model.specs.Change.{putRead, undoRead};
 
 // What a put is to change, by the lengths of planes and log and by the pixels. The shape's number is known once the check has
 // passed.

@@ -1,23 +1,24 @@
 // What a call checks before it touches anything, by the table of refusals. Lengths come as numbers, and any number may come.
-use crate::fixed::LOG_TOP;
-use crate::fixed::PLACES_TOP;
-use crate::fixed::PLANES;
-use crate::fixed::REACH_TOP;
-use crate::fixed::SCRATCH_PLANES;
-use crate::fixed::SIDE_TOP;
-use crate::lent::Ask;
-use crate::lent::Sized;
-use crate::size::Size;
 use crate::size::frame_of;
-use crate::state::Outcome;
-use crate::state::Refusal;
-use crate::state::State;
 use kernels::ShapeRead;
-use kernels::fixed::VALUE_TOP;
+use kernels_model::fixed::VALUE_TOP;
+use plate_model::fixed::LOG_TOP;
+use plate_model::fixed::PLACES_TOP;
+use plate_model::fixed::PLANES;
+use plate_model::fixed::REACH_TOP;
+use plate_model::fixed::SCRATCH_PLANES;
+use plate_model::fixed::SIDE_TOP;
+use plate_model::lent::Ask;
+use plate_model::lent::Sized;
+use plate_model::size::Size;
+use plate_model::state::Outcome;
+use plate_model::state::Refusal;
+use plate_model::state::State;
 ghost use mathlib.Core.Path.{_≡_};
-ghost use Rattle.plate.specs.Refusal.{Accepted, sizesCheck, lentCheck, plateCheck, askCheck, inputsCheck, openCheck, putCheck, undoCheck, totalCheck, showCheck, showKeptCheck, keptCheck};
-ghost use Rattle.plate.specs.code.Bounds.{LawfulSize};
-ghost use Rattle.plate.specs.code.Filling.{fillLengths};
+ghost use Rattle.plate_model.specs.declared.state.Outcome.the-variants.{Accepted};
+ghost use Rattle.plate_model.specs.Refusal.{sizesCheck, lentCheck, plateCheck, askCheck, inputsCheck, openCheck, putCheck, undoCheck, totalCheck, showCheck, showKeptCheck, keptCheck};
+ghost use Rattle.plate_model.specs.Table.{LawfulSize};
+ghost use Rattle.plate.specs.Filling.{fillLengths};
 
 // 1: whether a plate can have these sizes.
 fn check_sizes(size: Size) -> Outcome

@@ -1,17 +1,18 @@
 // One pixel put in the place of another: what a put and an undo have in common.
-use crate::change::Change;
 use crate::lay::lay_pixel;
 use crate::lay::take_pixel;
-use crate::size::Size;
 use crate::size::frame_of;
-use crate::word::Pixel;
 use crate::word::pack;
+use plate_model::change::Change;
+use plate_model::size::Size;
+use plate_model::word::Pixel;
 ghost use mathlib.Core.Path.{_≡_};
 ghost use Prim.Native.Nat.{_<_};
 ghost use lib.ListN.{length};
-ghost use Rattle.plate.specs.Kernel.{markCount};
-ghost use Rattle.plate.specs.Marks.{exchanged};
-ghost use Rattle.plate.specs.code.Changing.{Changeable, Changed};
+ghost use Rattle.plate_model.specs.Kernel.{markCount};
+ghost use Rattle.plate_model.specs.Marks.{exchanged};
+ghost use Rattle.plate_model.specs.Ready.{Changeable};
+ghost use Rattle.plate.specs.Exchange.{Changed};
 
 // The marks of a pixel's kernel.
 fn mark_count(p: Pixel) -> u32

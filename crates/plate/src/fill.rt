@@ -2,14 +2,14 @@
 use crate::layer::LayerRead;
 use crate::layer::read_layer;
 use crate::layer::refill;
-use crate::lent::Sized;
-use crate::state::Answer;
-use crate::state::State;
 use crate::state::refused;
 use kernels::Lens;
+use plate_model::lent::Sized;
+use plate_model::state::Answer;
+use plate_model::state::State;
 ghost use mathlib.Core.Path.{_≡_};
-ghost use Rattle.plate.specs.Lent.{inputs, lentAtEntry, lentAtExit};
-ghost use Rattle.plate.specs.Calls.{fillCall, leaves};
+ghost use Rattle.plate_model.specs.Lent.{inputs, lentAtEntry, lentAtExit};
+ghost use Rattle.plate_model.specs.Calls.{fillCall, leaves};
 
 // Replaces all pixels and empties the log. A refused fill touches nothing and hands the state back.
 pub fn fill(

@@ -1,17 +1,11 @@
 // The second forms of show, put and undo. The show keeps the finished sums of the image: its passes are those of the first form,
 // and the pictures are rounded from the sums that are kept. The put and the undo are the first forms, and mend sums and pictures
 // where the old or the new kernel reaches.
-ghost use mathlib.Core.Path.{_≡_};
-ghost use Rattle.plate.specs.Lent.{ask, lentAtEntry, lentAtExit, viewsAtEntry, viewsAtExit, canvasAtEntry, canvasAtExit};
-ghost use Rattle.plate.specs.Kept.{leavesKept, putKeptCall, undoKeptCall, showKeptCall, showsKept};
-ghost use Rattle.plate.specs.code.Keeping.{KeepIn, RowKept, KeepReady, KeptTo, ShowKeptReady, ShowKeptDone};
-use crate::change::ChangeRead;
 use crate::change::read_put;
 use crate::change::read_undo;
 use crate::check::check_kept;
 use crate::check::check_show_kept;
 use crate::clear::clear;
-use crate::lent::Ask;
 use crate::mend::mend;
 use crate::pass::Picture;
 use crate::pass::matte_after;
@@ -21,12 +15,18 @@ use crate::show::light_picture;
 use crate::show::round_row;
 use crate::show::sum_above;
 use crate::show::sum_both;
-use crate::state::Answer;
-use crate::state::Outcome;
-use crate::state::State;
 use crate::state::refused;
 use crate::undo::unlog_and_exchange;
-use kernels::fixed::MARGIN;
+use kernels_model::fixed::MARGIN;
+use plate_model::change::ChangeRead;
+use plate_model::lent::Ask;
+use plate_model::state::Answer;
+use plate_model::state::Outcome;
+use plate_model::state::State;
+ghost use mathlib.Core.Path.{_≡_};
+ghost use Rattle.plate_model.specs.Lent.{ask, lentAtEntry, lentAtExit, viewsAtEntry, viewsAtExit, canvasAtEntry, canvasAtExit};
+ghost use Rattle.plate_model.specs.Kept.{leavesKept, putKeptCall, undoKeptCall, showKeptCall, showsKept};
+ghost use Rattle.plate.specs.Keeping.{KeepIn, RowKept, KeepReady, KeptTo, ShowKeptReady, ShowKeptDone};
 
 // A row's finished sums, which start at `light` and `matte`, kept from `first` and from `second` on.
 fn keep_row(

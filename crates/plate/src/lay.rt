@@ -1,27 +1,27 @@
 // Lays the marks of kernels in the planes: each mark is one sum in a light plane and one in the matte plane, as many planes on as
 // a picture has.
 use crate::size::Frame;
-use crate::word::Pixel;
 use kernels::Boxes;
 use kernels::Drawing;
 use kernels::Line;
 use kernels::Outline;
 use kernels::Shape;
 use kernels::Share;
-use kernels::fixed::LEVEL;
-use kernels::fixed::MARGIN;
-use kernels::fixed::PLANES_EACH;
+use kernels_model::fixed::LEVEL;
+use kernels_model::fixed::MARGIN;
+use kernels_model::fixed::PLANES_EACH;
+use plate_model::word::Pixel;
 ghost use mathlib.Core.Path.{_≡_};
 ghost use Prim.Native.Nat.{ℕ, _*_, _<_, _≤_};
 ghost use lib.ListN.{length};
-ghost use Rattle.kernels.specs.Fixed.{planesEach, margin};
-ghost use Rattle.kernels.specs.declared.mark.Drawing.the-variants.{Grid, Lines};
-ghost use Rattle.kernels.specs.declared.shape.Shape.the-variants.{Box};
-ghost use Rattle.kernels.specs.Mark.{minus, boxGrid, scaled};
-ghost use Rattle.kernels.specs.code.Drawing.{pieceMarks, drawnMarks};
-ghost use Rattle.plate.specs.Fixed.{planesInAll};
-ghost use Rattle.plate.specs.Marks.{layAll};
-ghost use Rattle.plate.specs.code.Laying.{Worth, times, worthOf, spot, layWorth, layDrawn, factor, levelMarks, columnMarks, ColumnIn, FewBoxes, Roomy, Placed, PixelReady, ownMarks, groundOf, cornerOf, marksAt};
+ghost use Rattle.kernels_model.specs.Fixed.{planesEach, margin};
+ghost use Rattle.kernels_model.specs.declared.mark.Drawing.the-variants.{Grid, Lines};
+ghost use Rattle.kernels_model.specs.declared.shape.Shape.the-variants.{Box};
+ghost use Rattle.kernels_model.specs.Mark.{minus, boxGrid, scaled};
+ghost use Rattle.kernels_model.specs.Drawing.{pieceMarks, drawnMarks};
+ghost use Rattle.plate_model.specs.Fixed.{planesInAll};
+ghost use Rattle.plate_model.specs.Marks.{layAll};
+ghost use Rattle.plate.specs.Laying.{Worth, times, worthOf, spot, layWorth, layDrawn, factor, levelMarks, columnMarks, ColumnIn, FewBoxes, Roomy, Placed, PixelReady, ownMarks, groundOf, cornerOf, marksAt};
 
 // What a mark of coefficient 1 adds in light and in matte. Both wrap: to take a kernel off is to lay what wraps to its opposite.
 pub struct Worth {

@@ -1,11 +1,8 @@
 // Mending: kept sums and pictures after a change, where the old or the new kernel has a tap. A row in which each kernel has one
 // weight for all its cells is mended run by run, and any other cell by cell.
-use crate::change::Change;
 use crate::lay::Worth;
 use crate::lay::opposite;
 use crate::show::round_row;
-use crate::size::Size;
-use crate::word::Pixel;
 use kernels::Band;
 use kernels::Share;
 use kernels::band::band_of;
@@ -14,19 +11,22 @@ use kernels::band::less;
 use kernels::band::weight_at;
 use kernels::rounding::shown_matte;
 use kernels::rounding::shown_value;
+use plate_model::change::Change;
+use plate_model::size::Size;
+use plate_model::word::Pixel;
 ghost use mathlib.Core.Path.{_≡_};
 ghost use mathlib.Core.Bool.{true};
 ghost use Prim.Native.Nat.{_+_, _-_, _%_, _^_, _≤_, _<_, min};
 ghost use lib.ListN.{length};
-ghost use Rattle.kernels.specs.Sum.{dist};
-ghost use Rattle.kernels.specs.Mark.{minus};
-ghost use Rattle.kernels.specs.Shape.{topOf};
-ghost use Rattle.kernels.specs.Share.{shareParts};
-ghost use Rattle.kernels.specs.code.Bands.{isLevel};
-ghost use Rattle.plate.specs.Fixed.{sideTop};
-ghost use Rattle.plate.specs.Lent.{canvas, canvasAtEntry, canvasAtExit};
-ghost use Rattle.plate.specs.Kept.{mended};
-ghost use Rattle.plate.specs.code.Mending.{GivenIn, GivesFew, CellIn, CellDone, levelWorth, RunAdded, RunIn, RunGiven, MendReady, SharesOf, RowToMend, InRow, MendedWhere};
+ghost use Rattle.kernels_model.specs.Sum.{dist};
+ghost use Rattle.kernels_model.specs.Mark.{minus};
+ghost use Rattle.kernels_model.specs.Shape.{topOf};
+ghost use Rattle.kernels_model.specs.Share.{shareParts};
+ghost use Rattle.kernels_model.specs.Band.{isLevel};
+ghost use Rattle.plate_model.specs.Fixed.{sideTop};
+ghost use Rattle.plate_model.specs.Lent.{canvas, canvasAtEntry, canvasAtExit};
+ghost use Rattle.plate_model.specs.Kept.{mended};
+ghost use Rattle.plate.specs.Mending.{GivenIn, GivesFew, CellIn, CellDone, levelWorth, RunAdded, RunIn, RunGiven, MendReady, SharesOf, RowToMend, InRow, MendedWhere};
 
 // What a pixel gives the cells of one row: its value and its opacity, and its kernel's row.
 pub struct Given {

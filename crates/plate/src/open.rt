@@ -1,17 +1,17 @@
 // Opening a plate.
 use crate::check::check_open;
 use crate::clear::clear;
-use crate::lent::Sized;
-use crate::size::Size;
-use crate::state::Answer;
-use crate::state::Outcome;
 use crate::state::accepted;
 use crate::state::refused;
 use crate::state::state_of;
+use plate_model::lent::Sized;
+use plate_model::size::Size;
+use plate_model::state::Answer;
+use plate_model::state::Outcome;
 ghost use mathlib.Core.Path.{_≡_};
-ghost use Rattle.plate.specs.Layout.{sizeFrom};
-ghost use Rattle.plate.specs.Lent.{lentAtEntry, lentAtExit};
-ghost use Rattle.plate.specs.Calls.{openCall, leaves};
+ghost use Rattle.plate_model.specs.Layout.{sizeFrom};
+ghost use Rattle.plate_model.specs.Lent.{lentAtEntry, lentAtExit};
+ghost use Rattle.plate_model.specs.Calls.{openCall, leaves};
 
 // Sets planes, pixels, every log entry and the log count to 0. A refused open touches nothing and hands back a state of zeros.
 pub fn open(

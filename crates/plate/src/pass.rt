@@ -1,17 +1,17 @@
 // The sums that finish a picture's planes, in one pass over its rows. What a sum hands from row to row it keeps in the lent
 // scratch, one cell for each column or for each line of a slope, and reads and raises it there: no sum has a copy of a row or a
 // column for itself.
+use crate::clear::clear;
+use kernels_model::fixed::LEVEL;
+use kernels_model::fixed::PLANES_EACH;
+use kernels_model::fixed::SECOND_BOX;
+use kernels_model::fixed::THIRD_BOX;
+use std::num::wrapping_add_u64;
+use std::num::wrapping_sub_u64;
 ghost use mathlib.Core.Path.{_≡_};
 ghost use Prim.Native.Nat.{_+_, _%_, _^_, _<_};
 ghost use lib.ListN.{length};
-ghost use Rattle.plate.specs.code.Passes.{sumsEnd, marksEnd, startsAt, matteAfter, Added, LinesIn, MarksOn, MarksOff, BoxesIn, BoxesMet, InOrder, RowSummed, RowLaid, PictureIn, RowReady, Summed};
-use crate::clear::clear;
-use kernels::fixed::LEVEL;
-use kernels::fixed::PLANES_EACH;
-use kernels::fixed::SECOND_BOX;
-use kernels::fixed::THIRD_BOX;
-use std::num::wrapping_add_u64;
-use std::num::wrapping_sub_u64;
+ghost use Rattle.plate.specs.Passes.{sumsEnd, marksEnd, startsAt, matteAfter, Added, LinesIn, MarksOn, MarksOff, BoxesIn, BoxesMet, InOrder, RowSummed, RowLaid, PictureIn, RowReady, Summed};
 
 // The planes of the slopes −2, −1, 1 and 2. A line of a slope below 0 rises to the right.
 const RISE_TWO: usize = LEVEL - 2;

@@ -1,19 +1,19 @@
 // Putting a pixel.
-use crate::change::Change;
-use crate::change::ChangeRead;
 use crate::change::read_put;
 use crate::exchange::exchange;
-use crate::lent::Ask;
-use crate::state::Answer;
-use crate::state::State;
 use crate::state::accepted;
 use crate::state::refused;
 use crate::word::pack_entry;
+use plate_model::change::Change;
+use plate_model::change::ChangeRead;
+use plate_model::lent::Ask;
+use plate_model::state::Answer;
+use plate_model::state::State;
 ghost use mathlib.Core.Path.{_≡_};
-ghost use Rattle.plate.specs.Lent.{ask, lent, lentAtEntry, lentAtExit};
-ghost use Rattle.plate.specs.Change.{ToChange};
-ghost use Rattle.plate.specs.Calls.{putBy, putCall, leaves};
-ghost use Rattle.plate.specs.code.Changing.{PutReady};
+ghost use Rattle.plate_model.specs.Lent.{ask, lent, lentAtEntry, lentAtExit};
+ghost use Rattle.plate_model.specs.declared.change.ChangeRead.the-variants.{ToChange};
+ghost use Rattle.plate_model.specs.Calls.{putBy, putCall, leaves};
+ghost use Rattle.plate_model.specs.Ready.{PutReady};
 
 // Logs the word at the place, and sets the new pixel there.
 pub(crate) fn log_and_exchange(

@@ -1,14 +1,14 @@
 // The inputs of a fill scanned row by row for a number that no pixel can have, left at the first.
-use crate::size::Size;
-use kernels::fixed::VALUE_TOP;
+use kernels_model::fixed::VALUE_TOP;
+use plate_model::size::Size;
 ghost use mathlib.Core.Path.{_≡_};
 ghost use mathlib.Core.Bool.{false};
 ghost use Prim.Native.Nat.{ℕ, _≤_};
 ghost use lib.ListN.{length, getD};
-ghost use Rattle.kernels.specs.Fixed.{valueTop};
-ghost use Rattle.plate.specs.Layout.{places};
-ghost use Rattle.plate.specs.Refusal.{anyOf, anyAbove, isBetween};
-ghost use Rattle.plate.specs.code.Filling.{numberTop};
+ghost use Rattle.kernels_model.specs.Fixed.{valueTop};
+ghost use Rattle.plate_model.specs.Layout.{places};
+ghost use Rattle.plate_model.specs.Refusal.{anyOf, anyAbove, isBetween};
+ghost use Rattle.plate.specs.Filling.{numberTop};
 
 // 5: whether a value is above its top.
 pub(crate) fn value_above(values: &[u16], size: Size) -> bool

@@ -1,25 +1,25 @@
 // Show: the planes finished into the two pictures. One pass over the rows sums light and matte side by side and rounds each row
 // of the image at once, so that no picture's sums are ever stored.
-ghost use mathlib.Core.Path.{_≡_};
-ghost use Prim.Native.Nat.{_+_};
-ghost use Rattle.plate.specs.Lent.{viewsAtEntry, viewsAtExit};
-ghost use Rattle.plate.specs.Calls.{showCall, shows};
-ghost use Rattle.plate.specs.code.Bounds.{LawfulSize};
-ghost use Rattle.plate.specs.code.Showing.{lightPicture, BothIn, AboveReady, BothReady, BothSummed, RowIn, RowShown, ImageReady, ShownTo, ShowReady, ShowDone};
 use crate::check::check_show;
 use crate::clear::clear;
 use crate::pass::Picture;
 use crate::pass::matte_after;
 use crate::pass::start_sums;
 use crate::pass::sum_next;
-use crate::size::Size;
 use crate::size::frame_of;
-use crate::state::Answer;
-use crate::state::Outcome;
-use crate::state::State;
-use kernels::fixed::MARGIN;
 use kernels::rounding::shown_matte;
 use kernels::rounding::shown_value;
+use kernels_model::fixed::MARGIN;
+use plate_model::size::Size;
+use plate_model::state::Answer;
+use plate_model::state::Outcome;
+use plate_model::state::State;
+ghost use mathlib.Core.Path.{_≡_};
+ghost use Prim.Native.Nat.{_+_};
+ghost use Rattle.plate_model.specs.Lent.{viewsAtEntry, viewsAtExit};
+ghost use Rattle.plate_model.specs.Calls.{showCall, shows};
+ghost use Rattle.plate_model.specs.Table.{LawfulSize};
+ghost use Rattle.plate.specs.Showing.{lightPicture, BothIn, AboveReady, BothReady, BothSummed, RowIn, RowShown, ImageReady, ShownTo, ShowReady, ShowDone};
 
 // The image in a padded plane: its first column, which is its first row as well, and its sizes.
 pub(crate) struct Image {

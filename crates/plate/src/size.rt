@@ -1,14 +1,9 @@
 // The sizes of a plate, and the frame of its planes that follows from them.
-use crate::fixed::BORDER;
+use plate_model::fixed::BORDER;
+use plate_model::size::Size;
 ghost use mathlib.Core.Path.{_≡_};
-ghost use Rattle.plate.specs.code.Bounds.{LawfulSize, frameOf};
-
-// What an open is given.
-pub struct Size {
-    pub width: usize,
-    pub height: usize,
-    pub reach: usize,
-}
+ghost use Rattle.plate_model.specs.Table.{LawfulSize};
+ghost use Rattle.plate.specs.Frame.{frameOf};
 
 // A padded plane: the cells of a row, its rows, and its cells in all; and the places of the image.
 pub struct Frame {

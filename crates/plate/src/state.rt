@@ -1,44 +1,14 @@
 // What a caller holds of a plate beside its buffers, and what each call answers.
-use crate::size::Size;
+use plate_model::size::Size;
+use plate_model::state::Answer;
+use plate_model::state::Outcome;
+use plate_model::state::Refusal;
+use plate_model::state::State;
 ghost use mathlib.Core.Path.{_≡_};
-ghost use Rattle.plate.specs.Lent.{stateOf};
-ghost use Rattle.plate.specs.Refusal.{Accepted, Refused, refusalNumber, outcomeNumber};
-ghost use Rattle.plate.specs.Calls.{answerOf};
-
-// The sizes of a plate and the number of log entries in use. It goes in by value and comes back in the answer.
-pub struct State {
-    pub size: Size,
-    pub count: usize,
-}
-
-// Why a call is refused: the paper's numbers 1 to 12, in order, and 17; 13 to 16 are the records'.
-pub enum Refusal {
-    Sizes,
-    Lengths,
-    LogCount,
-    Place,
-    Value,
-    Shape,
-    Radius,
-    LogFull,
-    LogEmpty,
-    StoredWord,
-    Lens,
-    Depth,
-    DepthInside,
-}
-
-pub enum Outcome {
-    Accepted,
-    Refused(Refusal),
-}
-
-// The marks are those that a put or an undo moved.
-pub struct Answer {
-    pub outcome: Outcome,
-    pub marks: u32,
-    pub state: State,
-}
+ghost use Rattle.plate_model.specs.Lent.{stateOf};
+ghost use Rattle.plate_model.specs.declared.state.Outcome.the-variants.{Accepted, Refused};
+ghost use Rattle.plate_model.specs.Refusal.{refusalNumber, outcomeNumber};
+ghost use Rattle.plate_model.specs.Calls.{answerOf};
 
 // The state of a plate with a log count.
 pub(crate) fn state_of(size: Size, count: usize) -> State

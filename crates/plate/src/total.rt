@@ -1,12 +1,5 @@
 // The light and matte that a plate holds in all: the finished cells of the two padded pictures, added up. The sums of a row are
 // show's; here the pictures go one after the other, since the scratch of a small plate has no room for all columns of both.
-ghost use mathlib.Core.Path.{_≡_};
-ghost use Prim.Native.Nat.{_+_, _%_, _^_, _≤_};
-ghost use lib.ListN.{length, getD};
-ghost use Rattle.kernels.specs.Sum.{sum as sumOf};
-ghost use Rattle.plate.specs.Total.{totalled, totalCall};
-ghost use Rattle.plate.specs.code.Passes.{PictureIn};
-ghost use Rattle.plate.specs.code.Totalling.{wholePicture, AddedUp, TotalReady, TotalDone};
 use crate::check::check_total;
 use crate::clear::clear;
 use crate::pass::Picture;
@@ -15,18 +8,19 @@ use crate::pass::starts_at;
 use crate::pass::sum_next;
 use crate::size::Frame;
 use crate::size::frame_of;
-use crate::state::Answer;
-use crate::state::Outcome;
-use crate::state::State;
-use kernels::fixed::PLANES_EACH;
+use kernels_model::fixed::PLANES_EACH;
+use plate_model::state::Answer;
+use plate_model::state::Outcome;
+use plate_model::state::State;
+use plate_model::total::Totals;
 use std::num::wrapping_add_u64;
-
-// What a plate holds in all; both sums are 0 where the call is refused.
-pub struct Totals {
-    pub answer: Answer,
-    pub matte: u64,
-    pub light: u64,
-}
+ghost use mathlib.Core.Path.{_≡_};
+ghost use Prim.Native.Nat.{_+_, _%_, _^_, _≤_};
+ghost use lib.ListN.{length, getD};
+ghost use Rattle.kernels_model.specs.Sum.{sum as sumOf};
+ghost use Rattle.plate_model.specs.Total.{totalled, totalCall};
+ghost use Rattle.plate.specs.Passes.{PictureIn};
+ghost use Rattle.plate.specs.Totalling.{wholePicture, AddedUp, TotalReady, TotalDone};
 
 // A run of cells, added to a sum.
 fn add_cells(cells: &[u64], first: usize, count: usize, to: u64) -> u64

@@ -1,17 +1,17 @@
 // Undoing the last put.
-use crate::change::Change;
-use crate::change::ChangeRead;
 use crate::change::read_undo;
 use crate::exchange::exchange;
-use crate::state::Answer;
-use crate::state::State;
 use crate::state::accepted;
 use crate::state::refused;
+use plate_model::change::Change;
+use plate_model::change::ChangeRead;
+use plate_model::state::Answer;
+use plate_model::state::State;
 ghost use mathlib.Core.Path.{_≡_};
-ghost use Rattle.plate.specs.Lent.{lent, lentAtEntry, lentAtExit};
-ghost use Rattle.plate.specs.Change.{ToChange};
-ghost use Rattle.plate.specs.Calls.{undoBy, undoCall, leaves};
-ghost use Rattle.plate.specs.code.Changing.{UndoReady};
+ghost use Rattle.plate_model.specs.Lent.{lent, lentAtEntry, lentAtExit};
+ghost use Rattle.plate_model.specs.declared.change.ChangeRead.the-variants.{ToChange};
+ghost use Rattle.plate_model.specs.Calls.{undoBy, undoCall, leaves};
+ghost use Rattle.plate_model.specs.Ready.{UndoReady};
 
 // Zeroes the last log entry, and puts the logged pixel back in its place.
 pub(crate) fn unlog_and_exchange(

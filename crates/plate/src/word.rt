@@ -1,40 +1,18 @@
 // The pixel word and the log entry.
-use crate::fixed::WORD_BITS;
-use crate::fixed::WORD_MASK;
-use crate::size::Size;
-use kernels::Shape;
 use kernels::ShapeRead;
+use plate_model::fixed::WORD_BITS;
+use plate_model::fixed::WORD_MASK;
+use plate_model::size::Size;
+use plate_model::word::Entry;
+use plate_model::word::EntryRead;
+use plate_model::word::Pixel;
+use plate_model::word::Unpacked;
 ghost use mathlib.Core.Path.{_≡_};
 ghost use Prim.Native.Nat.{_≤_, _<_, _^_};
-ghost use Rattle.kernels.specs.Fixed.{valueTop};
-ghost use Rattle.plate.specs.Fixed.{wordBits};
-ghost use Rattle.plate.specs.Word.{wordOf, readWord, loggedAs, readEntry};
-ghost use Rattle.plate.specs.code.Bounds.{LawfulSize};
-
-pub struct Pixel {
-    pub value: u16,
-    pub opacity: u8,
-    pub shape: Shape,
-    pub radius: u8,
-}
-
-// What a stored word says.
-pub enum Unpacked {
-    Whole(Pixel),
-    Broken,
-}
-
-// A pixel that a put replaced, and its place.
-pub struct Entry {
-    pub place: usize,
-    pub pixel: Pixel,
-}
-
-// What a log entry says.
-pub enum EntryRead {
-    Logged(Entry),
-    Unreadable,
-}
+ghost use Rattle.kernels_model.specs.Fixed.{valueTop};
+ghost use Rattle.plate_model.specs.Fixed.{wordBits};
+ghost use Rattle.plate_model.specs.Word.{wordOf, readWord, loggedAs, readEntry};
+ghost use Rattle.plate_model.specs.Table.{LawfulSize};
 
 // The word of a pixel: the value in bits 0 to 11, opacity in 12 to 19, shape in 20 to 23, radius in 24 to 31.
 pub(crate) fn pack(p: Pixel) -> u64

@@ -1,3 +1,2 @@
--- Records, as they are read: the kinds, and what a record looks at in its body.
+-- The kinds of records.
 pub mod Kinds
-pub mod Bodies

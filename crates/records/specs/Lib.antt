@@ -1,7 +1,5 @@
-pub mod Fixed
-pub mod Text
-pub mod Record
-pub mod Run
-pub mod Stops
-pub mod Machine
-pub mod code
+-- What only contracts inside this crate use: no statement about a public call needs it.
+pub mod Written
+pub mod Room
+pub mod Done
+pub mod Handed

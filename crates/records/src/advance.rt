@@ -1,29 +1,22 @@
 // A part of the input: as much of it is taken as there is room for the text of.
-use crate::fixed::FULL;
-use crate::fixed::Log;
-use crate::fixed::Mattes;
-use crate::fixed::Pixels;
-use crate::fixed::Planes;
-use crate::fixed::Scratch;
-use crate::fixed::Text;
-use crate::fixed::Values;
 use crate::machine::Fed;
-use crate::machine::Machine;
 use crate::machine::feed;
+use records_model::advance::Advanced;
+use records_model::fixed::FULL;
+use records_model::fixed::Log;
+use records_model::fixed::Mattes;
+use records_model::fixed::Pixels;
+use records_model::fixed::Planes;
+use records_model::fixed::Scratch;
+use records_model::fixed::Text;
+use records_model::fixed::Values;
+use records_model::machine::Machine;
 ghost use mathlib.Core.Path.{_≡_};
 ghost use Prim.Native.Nat.{_+_, _≤_};
 ghost use lib.ListN.{length};
-ghost use Rattle.records.specs.Fixed.{textRoom};
-ghost use Rattle.records.specs.Machine.{atEntry, atExit, feedOf, advanceLeft, advanceCall};
-ghost use Rattle.records.specs.code.Handed.{handed, handAfter};
-
-// What a part leaves: the machine, how many bytes of the part were taken, and how many of text stand at the start of what was lent
-// for it.
-pub struct Advanced {
-    pub machine: Machine,
-    pub consumed: usize,
-    pub written: usize,
-}
+ghost use Rattle.records_model.specs.Fixed.{textRoom};
+ghost use Rattle.records_model.specs.Machine.{atEntry, atExit, feedOf, advanceLeft, advanceCall};
+ghost use Rattle.records.specs.Handed.{handed, handAfter};
 
 // One byte more, its text after what stands there already.
 fn step(

@@ -1,58 +1,37 @@
 // The machine: what a byte makes of it, and its end. Its buffers are lent to each call.
-use crate::fixed::BODY;
-use crate::fixed::Body;
-use crate::fixed::Log;
-use crate::fixed::Mattes;
-use crate::fixed::Pixels;
-use crate::fixed::Planes;
-use crate::fixed::Scratch;
-use crate::fixed::Text;
-use crate::fixed::Values;
-use crate::perform::Stage;
 use crate::perform::perform;
 use crate::perform::stop;
 use crate::record;
-use crate::record::BodyLength;
-use crate::record::Stop;
 use crate::text;
+use records_model::fixed::BODY;
+use records_model::fixed::Body;
+use records_model::fixed::Log;
+use records_model::fixed::Mattes;
+use records_model::fixed::Pixels;
+use records_model::fixed::Planes;
+use records_model::fixed::Scratch;
+use records_model::fixed::Text;
+use records_model::fixed::Values;
+use records_model::machine::Machine;
+use records_model::machine::Next;
+use records_model::machine::Taken;
+use records_model::perform::Stage;
+use records_model::record::BodyLength;
+use records_model::record::Stop;
 ghost use mathlib.Core.Path.{_≡_};
 ghost use Prim.Native.Nat.{_≤_};
 ghost use lib.ListN.{length};
-ghost use Rattle.records.specs.Fixed.{textRoom};
-ghost use Rattle.records.specs.code.Written.{Wrote};
-ghost use Rattle.records.specs.code.Room.{AllRoom};
-ghost use Rattle.records.specs.Machine.{atEntry, atExit, endedAt, fresh, standing, settledOf, begunOf, carriedOf, takenOf, fedBy, Do, fedTaken, feedOf, endText, closing, finishCall};
-ghost use Rattle.records.specs.code.Handed.{handed, handOut};
-
-// A run between two bytes: where it stands, the record that is being read (its kind, how many bytes of its body are held, and of
-// how many), and how many records have begun.
-pub struct Machine {
-    pub stage: Stage,
-    pub kind: u8,
-    pub held: usize,
-    pub whole: usize,
-    pub body: Body,
-    pub count: u64,
-}
+ghost use Rattle.records_model.specs.Fixed.{textRoom};
+ghost use Rattle.records_model.specs.declared.machine.Next.the-variants.{Do};
+ghost use Rattle.records_model.specs.Machine.{atEntry, atExit, endedAt, fresh, standing, settledOf, begunOf, carriedOf, takenOf, fedBy, fedTaken, feedOf, endText, closing, finishCall};
+ghost use Rattle.records.specs.Written.{Wrote};
+ghost use Rattle.records.specs.Room.{AllRoom};
+ghost use Rattle.records.specs.Handed.{handed, handOut};
 
 // What a byte leaves: the machine, and how many bytes of text stand in what was lent for it.
 pub(crate) struct Fed {
     pub machine: Machine,
     pub written: usize,
-}
-
-// What there is to do once a byte is taken in: wait for the next one, do the record, refuse its kind, or give a machine up that no
-// run comes to.
-enum Next {
-    Wait,
-    Do,
-    Refuse,
-    Lose,
-}
-
-struct Taken {
-    machine: Machine,
-    next: Next,
 }
 
 // The machine before the first byte.

@@ -1,8 +1,5 @@
 // What a record does: a call of the plate on the front of the lent buffers, and the text of its answer.
-use crate::record::Record;
-use crate::record::Stop;
 use crate::record::stop_number;
-use crate::request::Request;
 use crate::request::room;
 use crate::request::serve;
 use crate::request::shapeless_request;
@@ -10,27 +7,26 @@ use crate::request::stroke_request;
 use crate::text;
 use plate::Answer;
 use plate::Outcome;
+use plate::Size;
 use plate::State;
-use plate::fixed::PLANES;
-use plate::fixed::SCRATCH_PLANES;
-use plate::size::Size;
+use plate_model::fixed::PLANES;
+use plate_model::fixed::SCRATCH_PLANES;
+use records_model::perform::Stage;
+use records_model::record::Record;
+use records_model::record::Stop;
+use records_model::request::Request;
 ghost use mathlib.Core.Path.{_≡_};
 ghost use Prim.Native.Nat.{_*_, _≤_};
 ghost use lib.ListN.{length};
-ghost use Rattle.plate.specs.Refusal.{outcomeNumber};
-ghost use Rattle.plate.specs.Calls.{showCall};
-ghost use Rattle.records.specs.Fixed.{textRoom};
-ghost use Rattle.records.specs.Machine.{atEntry, atExit, Closed, Opened, ToOpen, stoppedBy, openedBy, answeredBy, shownBy, showOn, recordOn};
-ghost use Rattle.plate.specs.Lent.{lentAtEntry, lentAtExit, viewsAtEntry, viewsAtExit};
-ghost use Rattle.records.specs.code.Room.{ShowRoom, PlateRoom, PictureRoom, PartRoom, AllRoom};
-ghost use Rattle.records.specs.code.Done.{doneWith, doneOf, Says, Served, ShowDone, PlateDone, ViewsDone};
-
-// Where a run stands: no plate yet, a plate, or the end after a stop.
-pub enum Stage {
-    Closed,
-    Opened(State),
-    Ended,
-}
+ghost use Rattle.plate_model.specs.Refusal.{outcomeNumber};
+ghost use Rattle.plate_model.specs.Calls.{showCall};
+ghost use Rattle.plate_model.specs.Lent.{lentAtEntry, lentAtExit, viewsAtEntry, viewsAtExit};
+ghost use Rattle.records_model.specs.Fixed.{textRoom};
+ghost use Rattle.records_model.specs.declared.perform.Stage.the-variants.{Closed, Opened};
+ghost use Rattle.records_model.specs.declared.request.Request.the-variants.{ToOpen};
+ghost use Rattle.records_model.specs.Machine.{atEntry, atExit, stoppedBy, openedBy, answeredBy, shownBy, showOn, recordOn};
+ghost use Rattle.records.specs.Room.{ShowRoom, PlateRoom, PictureRoom, PartRoom, AllRoom};
+ghost use Rattle.records.specs.Done.{doneWith, doneOf, Says, Served, ShowDone, PlateDone, ViewsDone};
 
 // What a record leaves: where the run stands then, and how many bytes of text it wrote.
 pub(crate) struct Done {

@@ -1,53 +1,20 @@
 // Records, as they are read from the input.
-use crate::fixed::Body;
-use crate::fixed::OPEN_BODY;
-use crate::fixed::PUT_BODY;
 use kernels::ShapeRead;
-use plate::size::Size;
-use plate::word::Pixel;
+use plate::Size;
+use plate_model::word::Pixel;
+use records_model::fixed::Body;
+use records_model::fixed::OPEN_BODY;
+use records_model::fixed::PUT_BODY;
+use records_model::record::BodyLength;
+use records_model::record::Record;
+use records_model::record::Shapeless;
+use records_model::record::Stop;
+use records_model::record::Stroke;
 ghost use mathlib.Core.Path.{_≡_};
 ghost use Prim.Native.Nat.{_+_, _*_, _<_};
 ghost use lib.ListN.{getD};
-ghost use Rattle.kernels.specs.Shape.{shapeOf};
-ghost use Rattle.records.specs.Record.{stopNumber, bodyLength, putRecord, recordOf};
-
-// A put's place, and the pixel that it asks for.
-pub struct Stroke {
-    pub x: usize,
-    pub y: usize,
-    pub pixel: Pixel,
-}
-
-// A put whose shape byte names no shape: what is left to refuse it by.
-pub struct Shapeless {
-    pub x: usize,
-    pub y: usize,
-    pub value: u16,
-}
-
-// One record with its whole body.
-pub enum Record {
-    Open(Size),
-    Put(Stroke),
-    NoShape(Shapeless),
-    Undo,
-    Show,
-}
-
-// Why a run stops: the paper's numbers 1 and 13 to 16.
-pub enum Stop {
-    Sizes,
-    Kind,
-    Body,
-    Order,
-    Cells,
-}
-
-// The bytes of a kind's body, or that there is no such kind.
-pub enum BodyLength {
-    Bytes(usize),
-    NoKind,
-}
+ghost use Rattle.kernels_model.specs.Shape.{shapeOf};
+ghost use Rattle.records_model.specs.Record.{stopNumber, bodyLength, putRecord, recordOf};
 
 // The number of a stop in the paper's table.
 pub(crate) fn stop_number(s: Stop) -> u64

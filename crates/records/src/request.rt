@@ -1,32 +1,22 @@
 // What a record asks of the plate. There is one path to it: the call is lent the front of planes and pixels.
-use crate::fixed::CELLS;
-use crate::fixed::NO_SHAPE;
-use crate::record::Shapeless;
-use crate::record::Stroke;
 use plate::Answer;
+use plate::Size;
 use plate::State;
-use plate::fixed::BORDER;
-use plate::fixed::PLANES;
-use plate::lent::Ask;
-use plate::size::Size;
+use plate_model::fixed::BORDER;
+use plate_model::fixed::PLANES;
+use plate_model::lent::Ask;
+use records_model::fixed::CELLS;
+use records_model::fixed::NO_SHAPE;
+use records_model::record::Shapeless;
+use records_model::record::Stroke;
+use records_model::request::Request;
+use records_model::request::Strike;
 ghost use mathlib.Core.Path.{_≡_};
-ghost use Rattle.plate.specs.Calls.{leaves};
-ghost use Rattle.records.specs.Record.{strokeAsk, shapelessAsk};
-ghost use Rattle.records.specs.Machine.{cellsOf, placesOf, putRequest, requestSize, requestCall, requested};
-ghost use Rattle.plate.specs.Lent.{lentAtEntry, lentAtExit};
-ghost use Rattle.records.specs.code.Room.{PlateRoom};
-
-// A put: the plate's state, and what is asked of it.
-pub(crate) struct Strike {
-    pub state: State,
-    pub ask: Ask,
-}
-
-pub(crate) enum Request {
-    ToOpen(Size),
-    ToPut(Strike),
-    ToUndo(State),
-}
+ghost use Rattle.plate_model.specs.Calls.{leaves};
+ghost use Rattle.plate_model.specs.Lent.{lentAtEntry, lentAtExit};
+ghost use Rattle.records_model.specs.Record.{strokeAsk, shapelessAsk};
+ghost use Rattle.records_model.specs.Machine.{cellsOf, placesOf, putRequest, requestSize, requestCall, requested};
+ghost use Rattle.records.specs.Room.{PlateRoom};
 
 // The cells of a padded plane and the places of a plate; none where the cells are more than there is room for.
 pub(crate) struct Lends {

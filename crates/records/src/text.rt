@@ -3,9 +3,9 @@ ghost use mathlib.Core.Path.{_≡_};
 ghost use mathlib.Core.List.{[], _∷_};
 ghost use Prim.Native.Nat.{_+_, _*_, _^_, _<_, _≤_};
 ghost use lib.ListN.{length};
-ghost use Rattle.records.specs.Text.{decimal, space, numbered, doneLine, headLine, cellText, rowText, rowsText, showText};
-ghost use Rattle.records.specs.code.Written.{Wrote, WroteIn, gapText};
-ghost use Rattle.records.specs.code.Room.{lineRoom, cellRoom, rowRoom, rowsRoom, CellsRoom, ShowRoom};
+ghost use Rattle.records_model.specs.Text.{decimal, space, numbered, doneLine, headLine, cellText, rowText, rowsText, showText};
+ghost use Rattle.records.specs.Written.{Wrote, WroteIn, gapText};
+ghost use Rattle.records.specs.Room.{lineRoom, cellRoom, rowRoom, rowsRoom, CellsRoom, ShowRoom};
 
 // One byte.
 fn byte(out: &mut [u8], at: usize, b: u8) -> usize

@@ -2,18 +2,18 @@
 // byte of its input; whatever else stands below the name is passed over. It prints each name, and then the text of the case's run.
 use libc::STDIN_FILENO;
 use libc::STDOUT_FILENO;
-use records::fixed::CELLS;
-use records::fixed::LOG;
-use records::fixed::Log;
-use records::fixed::Mattes;
-use records::fixed::PLANE_CELLS;
-use records::fixed::Pixels;
-use records::fixed::Planes;
-use records::fixed::SCRATCH_CELLS;
-use records::fixed::Scratch;
-use records::fixed::Text;
-use records::fixed::Values;
-use records::machine::Machine;
+use records::Log;
+use records::Machine;
+use records::Mattes;
+use records::Pixels;
+use records::Planes;
+use records::Scratch;
+use records::Text;
+use records::Values;
+use records_model::fixed::CELLS;
+use records_model::fixed::LOG;
+use records_model::fixed::PLANE_CELLS;
+use records_model::fixed::SCRATCH_CELLS;
 ghost use Prim.Native.Nat.{_≤_, _<_};
 ghost use lib.ListN.{length};
 

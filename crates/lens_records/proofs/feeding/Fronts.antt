@@ -4,11 +4,11 @@ use mathlib.Core.List.{List, [], append-nil}
 use Prim.Native.Nat.{ℕ, _+_}
 use lib.ListN.{take, drop}
 use lib.Seq.{take-add}
-use Rattle.records.specs.declared.machine.Machine.{Machine}
-use Rattle.records.specs.declared.advance.Advanced.{Advanced}
-use Rattle.records.specs.Machine.{Buffers, Progress, fed, fedThen, feedAll, AdvanceLeft, advanceLeft, advanceCall}
-use Rattle.records.proofs.running.Advancing.{fed-both, fed-after, call-goes-on}
-use Rattle.lens_records.specs.code.Feeding.{FedTo, FedFront}
+use Rattle.records_model.specs.declared.machine.Machine.{Machine}
+use Rattle.records_model.specs.declared.advance.Advanced.{Advanced}
+use Rattle.records_model.specs.Machine.{Buffers, Progress, fed, fedThen, feedAll, AdvanceLeft, advanceLeft, advanceCall}
+use Rattle.records_model.proofs.running.Advancing.{fed-both, fed-after, call-goes-on}
+use Rattle.lens_records.specs.Feeding.{FedTo, FedFront}
 
 pub fed-none : (m : Machine) (b : Buffers) → FedTo m b [] m b
 unfolding feedAll

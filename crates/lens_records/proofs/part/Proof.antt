@@ -7,9 +7,9 @@ use lib.ListN.{length, take, drop, length-drop}
 use lib.Seq.{take-all}
 use borrow.Author.Tests.{not-true}
 use borrow.Author.Needs.{needs}
-use Rattle.records.specs.Machine.{buffers}
-use Rattle.plate.proofs.checks.Conditions.{true-not}
-use Rattle.lens_records.specs.code.Feeding.{FedTo}
+use Rattle.records_model.specs.Machine.{buffers}
+use Rattle.plate_model.proofs.checks.Conditions.{true-not}
+use Rattle.lens_records.specs.Feeding.{FedTo}
 use Rattle.lens_records.proofs.feeding.Fronts.{fed-none, fed-on}
 use Rattle.lens_records.proofs.part.Statement.{statement}
 use Rattle.lens_records.proofs.part.Tie as tie

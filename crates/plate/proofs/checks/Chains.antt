@@ -2,13 +2,18 @@
 use mathlib.Core.Path.{_≡_}
 use Prim.Native.Nat.{ℕ, _*_}
 use lib.ListN.{length}
-use Rattle.plate.specs.Fixed.{planesInAll, scratchPlanes}
-use Rattle.plate.specs.Layout.{Size, padded}
-use Rattle.plate.specs.Lent.{State, Sized, Inputs}
-use Rattle.plate.specs.Refusal.{Outcome, Accepted, sizesCheck, lengthCheck, lentCheck, inputsCheck, openCheck, plateCheck, fillFirst, totalCheck}
-use Rattle.plate.specs.code.Filling.{fillLengths}
-use Rattle.plate.proofs.checks.Rows.{andThen, check-before}
-use Rattle.plate.proofs.checks.Conditions.{sizes-checks, lent-checks, inputs-checks, count-checks, total-checks}
+use Rattle.plate_model.specs.Fixed.{planesInAll, scratchPlanes}
+use Rattle.plate_model.specs.declared.size.Size.{Size}
+use Rattle.plate_model.specs.Layout.{padded}
+use Rattle.plate_model.specs.declared.state.State.{State}
+use Rattle.plate_model.specs.declared.lent.Sized.{Sized}
+use Rattle.plate_model.specs.Lent.{Inputs}
+use Rattle.plate_model.specs.declared.state.Outcome.{Outcome}
+use Rattle.plate_model.specs.declared.state.Outcome.the-variants.{Accepted}
+use Rattle.plate_model.specs.Refusal.{sizesCheck, lengthCheck, lentCheck, inputsCheck, openCheck, plateCheck, fillFirst, totalCheck}
+use Rattle.plate.specs.Filling.{fillLengths}
+use Rattle.plate_model.proofs.checks.Rows.{andThen, check-before}
+use Rattle.plate_model.proofs.checks.Conditions.{sizes-checks, lent-checks, inputs-checks, count-checks, total-checks}
 
 pub sizes-before : (z : Size) (a next : Outcome) → sizesCheck z (andThen a next) ≡ andThen (sizesCheck z a) next
 sizes-before z = check-before (sizes-checks z)

@@ -8,12 +8,12 @@ use native.Mathlib.Nat.{mul-le-mul-right}
 use lib.Dec.{ltb}
 use lib.ListN.{length, getD}
 use borrow.Author.Tests.{le-ltb, le-leb, lt-leb, lt-ltb}
-use Rattle.kernels.specs.Choice.{pick}
-use Rattle.kernels.proofs.numbers.Choices.{by-lt}
-use Rattle.plate.specs.Refusal.{anyOf, anyAbove, isBetween}
-use Rattle.plate.specs.code.Filling.{numberTop}
-use Rattle.plate.proofs.checks.Conditions.{true-not}
-use Rattle.plate.proofs.numbers.Extents.{row-in}
+use Rattle.kernels_model.specs.Choice.{pick}
+use Rattle.kernels_model.proofs.numbers.Choices.{by-lt}
+use Rattle.plate_model.specs.Refusal.{anyOf, anyAbove, isBetween}
+use Rattle.plate.specs.Filling.{numberTop}
+use Rattle.plate_model.proofs.checks.Conditions.{true-not}
+use Rattle.plate_model.proofs.numbers.Extents.{row-in}
 
 -- TESTS
 neither : (t u : Bool) → pick t true u ≡ false → (t ≡ false) × (u ≡ false)

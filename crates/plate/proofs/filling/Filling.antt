@@ -8,24 +8,30 @@ use native.Mathlib.Numerals.{add-one}
 use lib.ListN.{getD, set, length, length-map}
 use lib.Seq.{getD-set-same, getD-set-other, ext-getD}
 use borrow.Author.Count.{below-more}
-use Rattle.kernels.specs.Shape.{shapeOf, topUnder}
-use Rattle.kernels.specs.declared.lens.Lens.{Lens}
-use Rattle.kernels.specs.declared.lens.Radius.{Radius}
-use Rattle.kernels.specs.declared.lens.Radius.the-variants.{Pixels}
-use Rattle.kernels.specs.Lens.{lawfulLens, blur, radiusTold, radiusFor}
-use Rattle.kernels.proofs.lenses.ThinLens.{radius-read}
-use Rattle.plate.specs.Word.{empty, wordOf}
-use Rattle.plate.specs.Lent.{State, stateOf, Lent, sizedAs, Inputs, Sized}
-use Rattle.plate.specs.Refusal.{Refusal, Outcome, Accepted, Refused, layerCheck, fillCheck}
-use Rattle.plate.specs.Change.{knownShape}
-use Rattle.plate.specs.Marks.{pixelMarks, layAll, layGrid}
-use Rattle.plate.specs.Calls.{left, answerOf, refused, listTo, filled, fillBy, fillCall}
-use Rattle.plate.specs.code.Filling.{Layer, ToFill, NoFill, readBy, layerRead, layerSize, pixelOf, pixelFrom, Ready, FilledTo, Refilled, fillLengths, inputsRead, layerOf}
-use Rattle.plate.proofs.checks.Rows.{and-then}
-use Rattle.plate.proofs.checks.Accepted.{fill-accepted, layer-accepted}
+use Rattle.kernels_model.specs.Shape.{shapeOf, topUnder}
+use Rattle.kernels_model.specs.declared.lens.Lens.{Lens}
+use Rattle.kernels_model.specs.declared.lens.Radius.{Radius}
+use Rattle.kernels_model.specs.declared.lens.Radius.the-variants.{Pixels}
+use Rattle.kernels_model.specs.Lens.{lawfulLens, blur, radiusTold, radiusFor}
+use Rattle.kernels_model.proofs.lenses.ThinLens.{radius-read}
+use Rattle.plate_model.specs.Word.{empty, wordOf}
+use Rattle.plate_model.specs.declared.state.State.{State}
+use Rattle.plate_model.specs.declared.lent.Sized.{Sized}
+use Rattle.plate_model.specs.Lent.{stateOf, Lent, sizedAs, Inputs}
+use Rattle.plate_model.specs.declared.state.Refusal.{Refusal}
+use Rattle.plate_model.specs.declared.state.Outcome.{Outcome}
+use Rattle.plate_model.specs.declared.state.Outcome.the-variants.{Accepted, Refused}
+use Rattle.plate_model.specs.Refusal.{layerCheck, fillCheck}
+use Rattle.plate_model.specs.Change.{knownShape}
+use Rattle.plate_model.specs.Marks.{pixelMarks, layAll, layGrid}
+use Rattle.plate_model.specs.Calls.{left, answerOf, refused, listTo, filled, fillBy, fillCall}
+use Rattle.plate.specs.Filling.{Layer, ToFill, NoFill, readBy, layerRead, layerSize, pixelOf, pixelFrom, Ready, FilledTo, Refilled, fillLengths, inputsRead, layerOf}
+use Rattle.plate_model.proofs.checks.Rows.{and-then}
+use Rattle.plate_model.proofs.checks.Accepted.{layer-accepted}
+use Rattle.plate.proofs.checks.Counted.{fill-accepted}
 use Rattle.plate.proofs.checks.Chains.{fill-before}
-use Rattle.plate.proofs.numbers.Lists.{length-listTo, getD-listTo, word-at}
-use Rattle.kernels.specs.Fixed.{depthTop}
+use Rattle.plate_model.proofs.numbers.Lists.{length-listTo, getD-listTo, word-at}
+use Rattle.kernels_model.specs.Fixed.{depthTop}
 
 -- ONE PIXEL
 -- the radius that a lawful lens gives a lawful depth

@@ -4,29 +4,30 @@ use mathlib.Core.List.{List, [], _∷_, _++_}
 use Prim.Native.Nat.{ℕ, _+_, _*_, _-_, _%_, _^_, _≤_, _<_}
 use native.Mathlib.Omega.{arith}
 use native.Mathlib.Nat.{mul-assoc, mod-mod, mul-le-mul-right}
-use Rattle.kernels.specs.declared.shape.Shape.{Shape}
-use Rattle.kernels.specs.declared.shape.Shape.the-variants.{Box, Tent, Triple, Diamond, Hexagon, Octagon}
-use Rattle.kernels.specs.Shape.{reachOf, topOf}
-use Rattle.kernels.specs.Tap.{share, rest}
-use Rattle.kernels.specs.declared.share.Share.{Share}
-use Rattle.kernels.specs.Share.{shareParts}
-use Rattle.kernels.specs.Mark.{Mark, minus, boxGrid, scaled, tapMarks, centreMarks, marks}
-use Rattle.kernels.specs.code.Drawing.{moved, drawnMarks, drawingOf}
-use Rattle.kernels.proofs.drawing.Drawings.{drawing-marks}
-use Rattle.kernels.proofs.taps.Shares.{parts-under}
-use Rattle.kernels.specs.Facts.{Each, Near}
-use Rattle.kernels.proofs.drawing.MarkPlaces.{tap-marks-within, tap-marks-moved}
-use Rattle.plate.specs.Fixed.{planesInAll}
-use Rattle.plate.specs.Layout.{Size, wide, high, padded, columnOf, rowOf}
-use Rattle.plate.specs.Word.{Pixel}
-use Rattle.plate.specs.Marks.{inBoth, pixelMarks, cellOf, layOne, layAll}
-use Rattle.plate.proofs.numbers.Extents.{place-within, column-is, row-is}
-use Rattle.plate.proofs.laying.Cells.{reach-under}
-use Rattle.plate.proofs.laying.LaidCells.{lay-one-mod}
-use Rattle.plate.specs.code.Laying.{Worth, times, worthOf, Ground, layWorth, layDrawn, FewBoxes, AllIn, Roomy, Placed, PixelReady, ownMarks, groundOf, spare, cornerOf, marksAt}
-use Rattle.plate.specs.code.Bounds.{Frame, frameOf}
+use Rattle.kernels_model.specs.declared.shape.Shape.{Shape}
+use Rattle.kernels_model.specs.declared.shape.Shape.the-variants.{Box, Tent, Triple, Diamond, Hexagon, Octagon}
+use Rattle.kernels_model.specs.Shape.{reachOf, topOf}
+use Rattle.kernels_model.specs.Tap.{share, rest}
+use Rattle.kernels_model.specs.declared.share.Share.{Share}
+use Rattle.kernels_model.specs.Share.{shareParts}
+use Rattle.kernels_model.specs.Mark.{Mark, minus, boxGrid, scaled, tapMarks, centreMarks, marks}
+use Rattle.kernels_model.specs.Drawing.{moved, drawnMarks, drawingOf}
+use Rattle.kernels_model.proofs.drawing.Drawings.{drawing-marks}
+use Rattle.kernels_model.proofs.taps.Shares.{parts-under}
+use Rattle.kernels_model.specs.Facts.{Each, Near}
+use Rattle.kernels_model.proofs.drawing.MarkPlaces.{tap-marks-within, tap-marks-moved}
+use Rattle.plate_model.specs.Fixed.{planesInAll}
+use Rattle.plate_model.specs.declared.size.Size.{Size}
+use Rattle.plate_model.specs.Layout.{wide, high, padded, columnOf, rowOf}
+use Rattle.plate_model.specs.declared.word.Pixel.{Pixel}
+use Rattle.plate_model.specs.Marks.{inBoth, pixelMarks, cellOf, layOne, layAll}
+use Rattle.plate_model.proofs.numbers.Extents.{place-within, column-is, row-is}
+use Rattle.kernels_model.proofs.taps.ShapeNumbers.{reach-under}
+use Rattle.plate_model.proofs.laying.LaidCells.{lay-one-mod}
+use Rattle.plate.specs.Laying.{Worth, times, worthOf, Ground, layWorth, layDrawn, FewBoxes, AllIn, Roomy, Placed, PixelReady, ownMarks, groundOf, spare, cornerOf, marksAt}
+use Rattle.plate.specs.Frame.{Frame, frameOf}
 use Rattle.plate.proofs.laying.Worths.{times-number}
-use Rattle.kernels.specs.Fixed.{planesEach, level, margin}
+use Rattle.kernels_model.specs.Fixed.{planesEach, level, margin}
 
 -- WHERE A PIXEL LIES
 -- "place being y × W + x"

@@ -4,18 +4,18 @@ use mathlib.Core.Bool.{Bool, true, false}
 use mathlib.Core.List.{List, [], _∷_, _++_}
 use Prim.Native.Nat.{ℕ, zero, suc, _+_, _*_, _-_, _%_, _^_, _≤_, _<_}
 use native.Mathlib.Omega.{arith}
-use Rattle.kernels.specs.Choice.{pick}
+use Rattle.kernels_model.specs.Choice.{pick}
 use native.Mathlib.Nat.{mod-mod, mul-assoc, mod-eq-of-lt, mod-add-mod, add-mul-mod-self-left, zero-add}
-use Rattle.kernels.specs.Fixed.{planesEach, margin, level}
-use Rattle.kernels.specs.Mark.{Mark, mark, minus, sign, choose, marksTo, boxGrid}
-use Rattle.kernels.specs.declared.mark.Outline.{Outline}
-use Rattle.kernels.specs.declared.mark.Line.{Line}
-use Rattle.kernels.specs.declared.mark.Boxes.{Boxes}
-use Rattle.kernels.specs.declared.mark.Drawing.the-variants.{Lines}
-use Rattle.kernels.specs.code.Drawing.{pieceMarks, linePieces, drawnMarks}
-use Rattle.kernels.proofs.numbers.Choices.{by-lt}
-use Rattle.kernels.proofs.sums.FiniteSums.{cong-mul}
-use Rattle.plate.specs.code.Laying.{columnMarks, levelMarks, Worth, times, Ground, spot, layWorth, layDrawn, factor, gridColumn, AllIn}
+use Rattle.kernels_model.specs.Fixed.{planesEach, margin, level}
+use Rattle.kernels_model.specs.Mark.{Mark, mark, minus, sign, choose, marksTo, boxGrid}
+use Rattle.kernels_model.specs.declared.mark.Outline.{Outline}
+use Rattle.kernels_model.specs.declared.mark.Line.{Line}
+use Rattle.kernels_model.specs.declared.mark.Boxes.{Boxes}
+use Rattle.kernels_model.specs.declared.mark.Drawing.the-variants.{Lines}
+use Rattle.kernels_model.specs.Drawing.{pieceMarks, linePieces, drawnMarks}
+use Rattle.kernels_model.proofs.numbers.Choices.{by-lt}
+use Rattle.kernels_model.proofs.sums.FiniteSums.{cong-mul}
+use Rattle.plate.specs.Laying.{columnMarks, levelMarks, Worth, times, Ground, spot, layWorth, layDrawn, factor, gridColumn, AllIn}
 
 -- WORTHS
 -- what wraps to 0 with w is minus w, wrapped

@@ -1,11 +1,11 @@
 -- What a pixel gives a cell is far below 2 ^ 64.
 use Prim.Native.Nat.{ℕ, _*_, _≤_}
 use native.Mathlib.Omega.{arith}
-use Rattle.kernels.specs.Fixed.{valueTop, opacityTop, unit}
-use Rattle.kernels.proofs.numbers.Products.{product-le}
-use Rattle.plate.specs.Word.{Pixel}
-use Rattle.plate.specs.code.Bounds.{Fits}
-use Rattle.plate.specs.code.Mending.{Given, GivenIn, GivesFew, givenAt}
+use Rattle.kernels_model.specs.Fixed.{valueTop, opacityTop, unit}
+use Rattle.kernels_model.proofs.numbers.Products.{product-le}
+use Rattle.plate_model.specs.declared.word.Pixel.{Pixel}
+use Rattle.plate_model.specs.Word.{Fits}
+use Rattle.plate.specs.Mending.{Given, GivenIn, GivesFew, givenAt}
 
 -- in matte, and in light
 pub matte-small : (g : Given) (dx : ℕ) → GivesFew g → givenAt g dx ≤ opacityTop * unit

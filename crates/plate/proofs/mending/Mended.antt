@@ -9,19 +9,20 @@ use native.Mathlib.Omega.{arith}
 use native.Mathlib.Nat.{mul-assoc, div-add-mod'}
 use lib.ListN.{getD, set, length, length-set}
 use lib.Seq.{getD-set-same, getD-set-other, ext-getD}
-use Rattle.kernels.specs.Sum.{dist}
-use Rattle.kernels.specs.Rounding.{shownValue, shownMatte}
-use Rattle.kernels.proofs.numbers.Choices.{by-test, by-lt}
-use Rattle.plate.specs.Layout.{Size, places, sumsInAll, matteFrom}
-use Rattle.plate.specs.Lent.{Canvas, canvas}
-use Rattle.plate.specs.Change.{Change}
-use Rattle.plate.specs.Calls.{listTo}
-use Rattle.plate.specs.Plain.{lightOf, matteOf}
-use Rattle.plate.specs.Kept.{inReach, inReachOr, mendedSum, keptLight, keptMatte, mendedLight, mendedMatte, mended}
-use Rattle.plate.specs.code.Mending.{Given, GivenIn, lightThen, matteThen, CellDone, CellMended, CellSame, MendedWhere}
-use Rattle.plate.proofs.numbers.Lists.{length-listTo, getD-listTo, two-lists}
-use Rattle.plate.proofs.numbers.Extents.{column-is, row-is}
-use Rattle.plate.proofs.checks.Conditions.{true-not}
+use Rattle.kernels_model.specs.Sum.{dist}
+use Rattle.kernels_model.specs.Rounding.{shownValue, shownMatte}
+use Rattle.kernels_model.proofs.numbers.Choices.{by-test, by-lt}
+use Rattle.plate_model.specs.declared.size.Size.{Size}
+use Rattle.plate_model.specs.Layout.{places, sumsInAll, matteFrom}
+use Rattle.plate_model.specs.Lent.{Canvas, canvas}
+use Rattle.plate_model.specs.declared.change.Change.{Change}
+use Rattle.plate_model.specs.Calls.{listTo}
+use Rattle.plate_model.specs.Plain.{lightOf, matteOf}
+use Rattle.plate_model.specs.Kept.{inReach, inReachOr, mendedSum, keptLight, keptMatte, mendedLight, mendedMatte, mended}
+use Rattle.plate.specs.Mending.{Given, GivenIn, lightThen, matteThen, CellDone, CellMended, CellSame, MendedWhere}
+use Rattle.plate_model.proofs.numbers.Lists.{length-listTo, getD-listTo, two-lists}
+use Rattle.plate_model.proofs.numbers.Extents.{column-is, row-is}
+use Rattle.plate_model.proofs.checks.Conditions.{true-not}
 
 -- SOME CELLS, AND THEN OTHERS
 -- nothing is done yet

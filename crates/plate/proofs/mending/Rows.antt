@@ -6,22 +6,23 @@ use Prim.Native.Nat.{ℕ, _+_, _*_, _-_, _/_, _%_, _≤_, _<_, min}
 use native.Mathlib.Omega.{arith}
 use native.Mathlib.Nat.{mod-lt}
 use lib.ListN.{length}
-use Rattle.kernels.specs.Sum.{dist}
-use Rattle.kernels.specs.Shape.{reachOf}
-use Rattle.kernels.proofs.numbers.Choices.{by-lt}
-use Rattle.plate.specs.Fixed.{reachTop}
-use Rattle.plate.specs.Layout.{Size, places}
-use Rattle.plate.specs.Lent.{Canvas}
-use Rattle.plate.specs.Change.{Change}
-use Rattle.plate.specs.Refusal.{Accepted}
-use Rattle.plate.specs.Kept.{inReach, canvasFirst}
-use Rattle.plate.specs.code.Changing.{Changeable}
-use Rattle.plate.specs.code.Mending.{Given, GivenIn, CellIn, CellDone, MendReady, RowToMend, InRow, MendedWhere}
-use Rattle.plate.proofs.numbers.Extents.{place-within, row-of, column-is, row-is}
-use Rattle.plate.proofs.checks.Accepted.{kept-accepted}
-use Rattle.plate.proofs.laying.Cells.{reach-under}
+use Rattle.kernels_model.specs.Sum.{dist}
+use Rattle.kernels_model.specs.Shape.{reachOf}
+use Rattle.kernels_model.proofs.numbers.Choices.{by-lt}
+use Rattle.plate_model.specs.Fixed.{reachTop}
+use Rattle.plate_model.specs.declared.size.Size.{Size}
+use Rattle.plate_model.specs.Layout.{places}
+use Rattle.plate_model.specs.Lent.{Canvas}
+use Rattle.plate_model.specs.declared.change.Change.{Change}
+use Rattle.plate_model.specs.declared.state.Outcome.the-variants.{Accepted}
+use Rattle.plate_model.specs.Kept.{inReach, canvasFirst}
+use Rattle.plate_model.specs.Ready.{Changeable}
+use Rattle.plate.specs.Mending.{Given, GivenIn, CellIn, CellDone, MendReady, RowToMend, InRow, MendedWhere}
+use Rattle.plate_model.proofs.numbers.Extents.{place-within, row-of, column-is, row-is}
+use Rattle.plate.proofs.checks.Counted.{kept-accepted}
+use Rattle.kernels_model.proofs.taps.ShapeNumbers.{reach-under}
 use Rattle.plate.proofs.mending.Gives.{gives-few}
-use Rattle.plate.proofs.mending.Reached.{near-reached, far-not-reached, row-not-reached}
+use Rattle.plate_model.proofs.mending.Reached.{near-reached, far-not-reached, row-not-reached}
 use Rattle.plate.proofs.mending.Mended.{InStretch, mended-then, mended-as, cell-mended}
 
 -- a change of a plate and accepted sums and pictures can be mended

@@ -6,19 +6,20 @@ use Prim.Native.Nat.{ℕ, _+_, _*_, _-_, _/_, _%_, _^_, _≤_, _<_, min}
 use native.Mathlib.Omega.{arith}
 use native.Mathlib.Nat.{div-add-mod', mod-lt, add-mod-mod}
 use lib.ListN.{getD, length}
-use Rattle.kernels.specs.Sum.{dist}
-use Rattle.kernels.specs.Mark.{minus}
-use Rattle.kernels.specs.code.Bands.{isLevel}
-use Rattle.kernels.proofs.numbers.Choices.{by-lt}
-use Rattle.kernels.proofs.taps.Bands.{band-out, level-weight}
-use Rattle.plate.specs.Layout.{Size, places, sumsInAll, matteFrom}
-use Rattle.plate.specs.Lent.{Canvas, canvas}
-use Rattle.plate.specs.Change.{Change}
-use Rattle.plate.specs.code.Laying.{Worth, times}
-use Rattle.plate.specs.code.Showing.{RowShown}
-use Rattle.plate.specs.code.Mending.{Given, GivenIn, givenAt, levelWorth, lightThen, matteThen, Stretch, RunAdded, RunIn, RunGiven, RowToMend, InRow, CellMended, CellSame, MendedWhere}
+use Rattle.kernels_model.specs.Sum.{dist}
+use Rattle.kernels_model.specs.Mark.{minus}
+use Rattle.kernels_model.specs.Band.{isLevel}
+use Rattle.kernels_model.proofs.numbers.Choices.{by-lt}
+use Rattle.kernels_model.proofs.taps.Bands.{band-out, level-weight}
+use Rattle.plate_model.specs.declared.size.Size.{Size}
+use Rattle.plate_model.specs.Layout.{places, sumsInAll, matteFrom}
+use Rattle.plate_model.specs.Lent.{Canvas, canvas}
+use Rattle.plate_model.specs.declared.change.Change.{Change}
+use Rattle.plate.specs.Laying.{Worth, times}
+use Rattle.plate.specs.Showing.{RowShown}
+use Rattle.plate.specs.Mending.{Given, GivenIn, givenAt, levelWorth, lightThen, matteThen, Stretch, RunAdded, RunIn, RunGiven, RowToMend, InRow, CellMended, CellSame, MendedWhere}
 use Rattle.plate.proofs.numbers.Wraps.{wrap-more}
-use Rattle.plate.proofs.numbers.Extents.{place-within, row-in, column-is, row-is}
+use Rattle.plate_model.proofs.numbers.Extents.{place-within, row-in, column-is, row-is}
 use Rattle.plate.proofs.mending.Mended.{InStretch, light-then, matte-then}
 use Rattle.plate.proofs.mending.Rows.{change-column, change-row, row-mended}
 

@@ -4,8 +4,8 @@ use mathlib.Core.List.{List}
 use Prim.Native.Nat.{ℕ, _<_, _≤_}
 use native.Mathlib.Omega.{arith}
 use lib.ListN.{length, getD}
-use Rattle.plate.specs.code.Passes.{Picture, sumsEnd, matteAfter, startsAt, PictureIn, OnlySums, SummedTo, Summed}
-use Rattle.plate.specs.code.Showing.{BothIn, BothSummed}
+use Rattle.plate.specs.Passes.{Picture, sumsEnd, matteAfter, startsAt, PictureIn, OnlySums, SummedTo, Summed}
+use Rattle.plate.specs.Showing.{BothIn, BothSummed}
 use Rattle.plate.proofs.showing.Starts.{in-place}
 
 -- a picture whose sums are not changed

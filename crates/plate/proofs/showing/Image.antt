@@ -8,18 +8,21 @@ use native.Mathlib.Numerals.{add-one}
 use borrow.Author.Count.{below-more}
 use lib.ListN.{length, getD}
 use lib.Seq.{ext-getD}
-use Rattle.kernels.specs.Fixed.{planesEach, margin}
-use Rattle.kernels.specs.Sum.{sum, Plane, Planes, running, down, finish}
-use Rattle.kernels.specs.Rounding.{shownValue, shownMatte}
-use Rattle.plate.specs.Fixed.{scratchPlanes}
-use Rattle.plate.specs.Layout.{Size, wide, high, cell, places, columnOf, rowOf}
-use Rattle.plate.specs.Lent.{State, views}
-use Rattle.plate.specs.Refusal.{Accepted, showCheck}
-use Rattle.plate.specs.Calls.{zeros, listTo, stored, sumAt, shown, answerOf, showBy}
-use Rattle.plate.specs.code.Passes.{Picture, planesIn, slopeSums, downFrom, sumsEnd, matteAfter, SummedTo}
-use Rattle.plate.specs.code.Showing.{Image, lightPicture, BothIn, BothTo, BothSummed, RowShown, sumIn, ShownTo, TotalReady, ShowReady}
-use Rattle.plate.proofs.checks.Accepted.{show-accepted}
-use Rattle.plate.proofs.numbers.Lists.{length-listTo, getD-listTo}
+use Rattle.kernels_model.specs.Fixed.{planesEach, margin}
+use Rattle.kernels_model.specs.Sum.{sum, Plane, Planes, running, down, finish}
+use Rattle.kernels_model.specs.Rounding.{shownValue, shownMatte}
+use Rattle.plate_model.specs.Fixed.{scratchPlanes}
+use Rattle.plate_model.specs.declared.size.Size.{Size}
+use Rattle.plate_model.specs.Layout.{wide, high, cell, places, columnOf, rowOf}
+use Rattle.plate_model.specs.declared.state.State.{State}
+use Rattle.plate_model.specs.Lent.{views}
+use Rattle.plate_model.specs.declared.state.Outcome.the-variants.{Accepted}
+use Rattle.plate_model.specs.Refusal.{showCheck}
+use Rattle.plate_model.specs.Calls.{zeros, listTo, stored, sumAt, shown, answerOf, showBy}
+use Rattle.plate.specs.Passes.{Picture, planesIn, slopeSums, downFrom, sumsEnd, matteAfter, SummedTo}
+use Rattle.plate.specs.Showing.{Image, lightPicture, BothIn, BothTo, BothSummed, RowShown, sumIn, ShownTo, TotalReady, ShowReady}
+use Rattle.plate.proofs.checks.Counted.{show-accepted}
+use Rattle.plate_model.proofs.numbers.Lists.{length-listTo, getD-listTo}
 
 -- ONE ROW
 -- the sum down of the slope sums, to row y

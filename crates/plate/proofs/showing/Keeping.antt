@@ -5,18 +5,20 @@ use Prim.Native.Nat.{ℕ, _+_, _*_, _<_, _≤_}
 use native.Mathlib.Omega.{arith}
 use borrow.Author.Count.{below-more}
 use lib.ListN.{length, getD, set}
-use Rattle.kernels.specs.Fixed.{planesEach}
-use Rattle.plate.specs.Layout.{places}
-use Rattle.plate.specs.Lent.{State, views}
-use Rattle.plate.specs.Refusal.{Accepted, showKeptCheck}
-use Rattle.plate.specs.Calls.{zeros, sumAt, answerOf}
-use Rattle.plate.specs.Kept.{sumsOf, sumsBy, showsKept, showKeptBy}
-use Rattle.plate.specs.code.Passes.{Picture, matteAfter, rowStart}
-use Rattle.plate.specs.code.Showing.{Image, lightPicture, BothTo, BothSummed, RowShown, sumIn, ShownTo}
-use Rattle.plate.specs.code.Keeping.{RowKept, KeptTo, ShowKeptReady}
-use Rattle.plate.proofs.numbers.Extents.{place-within, row-in}
-use Rattle.plate.proofs.numbers.Lists.{two-lists}
-use Rattle.plate.proofs.checks.Passed.{sizes-passed, length-passed}
+use Rattle.kernels_model.specs.Fixed.{planesEach}
+use Rattle.plate_model.specs.Layout.{places}
+use Rattle.plate_model.specs.declared.state.State.{State}
+use Rattle.plate_model.specs.Lent.{views}
+use Rattle.plate_model.specs.declared.state.Outcome.the-variants.{Accepted}
+use Rattle.plate_model.specs.Refusal.{showKeptCheck}
+use Rattle.plate_model.specs.Calls.{zeros, sumAt, answerOf}
+use Rattle.plate_model.specs.Kept.{sumsOf, sumsBy, showsKept, showKeptBy}
+use Rattle.plate.specs.Passes.{Picture, matteAfter, rowStart}
+use Rattle.plate.specs.Showing.{Image, lightPicture, BothTo, BothSummed, RowShown, sumIn, ShownTo}
+use Rattle.plate.specs.Keeping.{RowKept, KeptTo, ShowKeptReady}
+use Rattle.plate_model.proofs.numbers.Extents.{place-within, row-in}
+use Rattle.plate_model.proofs.numbers.Lists.{two-lists}
+use Rattle.plate_model.proofs.checks.Passed.{sizes-passed, length-passed}
 use Rattle.plate.proofs.showing.Writes.{apart-two, out-of-two, Writing, writing-cell, writing-column}
 use Rattle.plate.proofs.showing.Image.{RowFinished, earlier-row, each-place, imageOf, light-sum, matte-sum, all-shown, show-ready}
 

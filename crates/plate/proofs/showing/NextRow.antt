@@ -6,12 +6,12 @@ use native.Mathlib.Omega.{arith}
 use native.Mathlib.Nat.{mod-mod}
 use native.Mathlib.Numerals.{add-one}
 use lib.ListN.{getD}
-use Rattle.kernels.specs.Fixed.{level, secondBox, thirdBox}
-use Rattle.kernels.specs.Sum.{sum, Row, Plane, Planes, running, across, down, add, slope, chain}
-use Rattle.kernels.proofs.numbers.Choices.{if-within, within-yes, within-no}
-use Rattle.kernels.proofs.sums.FiniteSums.{cong-add}
-use Rattle.kernels.proofs.sums.PlaneSums.{slope-zero}
-use Rattle.plate.specs.code.Passes.{Picture, riseTwo, riseOne, fallOne, fallTwo, planesIn, slopeSums, fallingOneAt, fallingTwoAt, risingOneAt, risingTwoAt, downFrom, startsAt, RowSummed, marksIn, onto, plus, thirdRow, secondRow, levelRow, rowWith, rowWithout, slopesRow, sumCell, FallingLines, RisingLines, SummedTo, RowReady, Summed}
+use Rattle.kernels_model.specs.Fixed.{level, secondBox, thirdBox}
+use Rattle.kernels_model.specs.Sum.{sum, Row, Plane, Planes, running, across, down, add, slope, chain}
+use Rattle.kernels_model.proofs.numbers.Choices.{if-within, within-yes, within-no}
+use Rattle.kernels_model.proofs.sums.FiniteSums.{cong-add}
+use Rattle.kernels_model.proofs.sums.PlaneSums.{slope-zero}
+use Rattle.plate.specs.Passes.{Picture, riseTwo, riseOne, fallOne, fallTwo, planesIn, slopeSums, fallingOneAt, fallingTwoAt, risingOneAt, risingTwoAt, downFrom, startsAt, RowSummed, marksIn, onto, plus, thirdRow, secondRow, levelRow, rowWith, rowWithout, slopesRow, sumCell, FallingLines, RisingLines, SummedTo, RowReady, Summed}
 use Rattle.plate.proofs.showing.Starts.{InPlace, in-place, Away, away, away-before, away-after, away-falling-one, away-falling-two, away-rising-one, away-rising-two, falling-one-step, falling-two-step, rising-one-step, rising-two-step, falling-one-later, falling-two-later, rising-one-later, rising-two-later, falling-two-other, rising-two-other}
 use Rattle.plate.proofs.showing.SlopeLines.{slope-from-above, falling-next, from-below-in, rising-next}
 

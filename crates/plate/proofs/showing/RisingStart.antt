@@ -5,8 +5,8 @@ use Prim.Native.Nat.{ℕ, _+_, _<_, _≤_}
 use native.Mathlib.Omega.{arith}
 use lib.ListN.{length, getD}
 use borrow.Author.Count.{below-none, below-more}
-use Rattle.kernels.specs.Sum.{sum}
-use Rattle.plate.specs.code.Passes.{Picture, riseTwo, riseOne, fallOne, fallTwo, planesIn, fallingOneAt, fallingTwoAt, risingOneFrom, risingTwoFrom, risingOneAt, risingTwoAt, downFrom, startsAt, RowLaid, rowWith, rowStart, risingCell, RisingLines, PictureIn, OnlySums, Summed, sumsEnd}
+use Rattle.kernels_model.specs.Sum.{sum}
+use Rattle.plate.specs.Passes.{Picture, riseTwo, riseOne, fallOne, fallTwo, planesIn, fallingOneAt, fallingTwoAt, risingOneFrom, risingTwoFrom, risingOneAt, risingTwoAt, downFrom, startsAt, RowLaid, rowWith, rowStart, risingCell, RisingLines, PictureIn, OnlySums, Summed, sumsEnd}
 use Rattle.plate.proofs.showing.Starts.{Out, in-place, InPlace, rising-one-step, rising-two-step, rising-one-later, rising-two-later, rising-two-earlier, rising-two-other}
 use Rattle.plate.proofs.showing.SlopeLines.{falling-start, rising-start, rising-laid}
 use Rattle.plate.proofs.showing.NextRow.{mark-is, plane-below}

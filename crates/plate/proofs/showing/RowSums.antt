@@ -7,10 +7,10 @@ use native.Mathlib.Nat.{mod-mod, add-mod-mod}
 use native.Mathlib.Numerals.{add-one}
 use lib.ListN.{length, getD, set}
 use borrow.Author.Count.{below-none, below-more}
-use Rattle.kernels.specs.Fixed.{level, secondBox, thirdBox}
-use Rattle.kernels.specs.Sum.{sum, Row}
-use Rattle.kernels.proofs.sums.FiniteSums.{cong-add}
-use Rattle.plate.specs.code.Passes.{Starts, Across, Added, MarksOn, MarksOff, InOrder, BoxesMet, riseTwo, riseOne, fallOne, fallTwo, markAt, marksIn, onto, plus, thirdRow, secondRow, levelRow, rowWith, rowWithout, slopesRow, sumStart, sumCell, rowStart, risingCell}
+use Rattle.kernels_model.specs.Fixed.{level, secondBox, thirdBox}
+use Rattle.kernels_model.specs.Sum.{sum, Row}
+use Rattle.kernels_model.proofs.sums.FiniteSums.{cong-add}
+use Rattle.plate.specs.Passes.{Starts, Across, Added, MarksOn, MarksOff, InOrder, BoxesMet, riseTwo, riseOne, fallOne, fallTwo, markAt, marksIn, onto, plus, thirdRow, secondRow, levelRow, rowWith, rowWithout, slopesRow, sumStart, sumCell, rowStart, risingCell}
 use Rattle.plate.proofs.showing.Writes.{Apart, apart-rows, apart-two, Writing, writing-start, writing-cell, writing-column}
 
 sums-apart : (starts : Starts) (n l k : ℕ) → InOrder starts n l k → Apart 7 n (sumStart starts)

@@ -4,11 +4,11 @@ use mathlib.Core.List.{List}
 use Prim.Native.Nat.{ℕ, zero, suc, _+_, _*_, _-_, _%_, _^_, _<_, _≤_}
 use native.Mathlib.Omega.{arith}
 use lib.ListN.{getD}
-use Rattle.kernels.specs.Sum.{Plane, slope}
-use Rattle.kernels.proofs.numbers.Choices.{by-lt, if-within, within-yes, within-no}
-use Rattle.kernels.specs.Facts.{slopeIn}
-use Rattle.kernels.proofs.sums.SlopeSums.{slope-in}
-use Rattle.plate.specs.code.Passes.{fromAbove, FallingLines, fromBelow, RisingLines}
+use Rattle.kernels_model.specs.Sum.{Plane, slope}
+use Rattle.kernels_model.proofs.numbers.Choices.{by-lt, if-within, within-yes, within-no}
+use Rattle.kernels_model.specs.Facts.{slopeIn}
+use Rattle.kernels_model.proofs.sums.SlopeSums.{slope-in}
+use Rattle.plate.specs.Passes.{fromAbove, FallingLines, fromBelow, RisingLines}
 use Rattle.plate.proofs.numbers.Wraps.{wrap-back}
 
 -- FALLING LINES

@@ -4,9 +4,9 @@ use Prim.Native.Nat.{ℕ, _+_, _*_, _-_, _%_, _<_, _≤_}
 use native.Mathlib.Omega.{arith}
 use native.Mathlib.Nat.{mul-le-mul-right}
 use borrow.Author.Count.{below-none, below-more}
-use Rattle.kernels.proofs.numbers.Choices.{by-lt}
-use Rattle.plate.proofs.numbers.Extents.{row-in}
-use Rattle.plate.specs.code.Passes.{Picture, Starts, marksEnd, twoLines, fallingOneFrom, fallingTwoFrom, risingOneFrom, risingTwoFrom, downFrom, sumsEnd, fallingOneAt, fallingTwoAt, risingOneAt, risingTwoAt, startsAt, InOrder, sumStart}
+use Rattle.kernels_model.proofs.numbers.Choices.{by-lt}
+use Rattle.plate_model.proofs.numbers.Extents.{row-in}
+use Rattle.plate.specs.Passes.{Picture, Starts, marksEnd, twoLines, fallingOneFrom, fallingTwoFrom, risingOneFrom, risingTwoFrom, downFrom, sumsEnd, fallingOneAt, fallingTwoAt, risingOneAt, risingTwoAt, startsAt, InOrder, sumStart}
 
 -- a row's lines that go 2 rows a column are the first or the second of that kind
 pub side-le : (row lines : ℕ) → (row % 2) * lines ≤ lines

@@ -6,20 +6,22 @@ use native.Mathlib.Omega.{arith}
 use native.Mathlib.Nat.{mul-le-mul-right}
 use native.Mathlib.Numerals.{add-one}
 use lib.ListN.{length, getD}
-use Rattle.kernels.specs.Fixed.{planesEach}
-use Rattle.kernels.specs.Sum.{sum, Planes, finish}
-use Rattle.plate.specs.Fixed.{scratchPlanes}
-use Rattle.plate.specs.Layout.{Size, wide, high, padded}
-use Rattle.plate.specs.Lent.{State}
-use Rattle.plate.specs.Refusal.{Accepted, totalCheck}
-use Rattle.plate.specs.Calls.{answerOf, zeros}
-use Rattle.plate.specs.Total.{heldFrom, totalsOf, totalled, totalBy}
-use Rattle.plate.specs.code.Bounds.{Frame, frameOf}
-use Rattle.plate.specs.code.Passes.{Picture, planesIn, downFrom, sumsEnd, SummedTo, PictureIn}
-use Rattle.plate.specs.code.Totalling.{wholePicture, finishedTo, AddedUp, TotalReady}
-use Rattle.plate.proofs.checks.Rows.{check-passed}
-use Rattle.plate.proofs.checks.Conditions.{total-checks}
-use Rattle.plate.proofs.checks.Passed.{sizes-passed}
+use Rattle.kernels_model.specs.Fixed.{planesEach}
+use Rattle.kernels_model.specs.Sum.{sum, Planes, finish}
+use Rattle.plate_model.specs.Fixed.{scratchPlanes}
+use Rattle.plate_model.specs.declared.size.Size.{Size}
+use Rattle.plate_model.specs.Layout.{wide, high, padded}
+use Rattle.plate_model.specs.declared.state.State.{State}
+use Rattle.plate_model.specs.declared.state.Outcome.the-variants.{Accepted}
+use Rattle.plate_model.specs.Refusal.{totalCheck}
+use Rattle.plate_model.specs.Calls.{answerOf, zeros}
+use Rattle.plate_model.specs.Total.{heldFrom, totalsOf, totalled, totalBy}
+use Rattle.plate.specs.Frame.{Frame, frameOf}
+use Rattle.plate.specs.Passes.{Picture, planesIn, downFrom, sumsEnd, SummedTo, PictureIn}
+use Rattle.plate.specs.Totalling.{wholePicture, finishedTo, AddedUp, TotalReady}
+use Rattle.plate_model.proofs.checks.Rows.{check-passed}
+use Rattle.plate_model.proofs.checks.Conditions.{total-checks}
+use Rattle.plate_model.proofs.checks.Passed.{sizes-passed}
 use Rattle.plate.proofs.showing.NextRow.{sum-cong-lt}
 use Rattle.plate.proofs.showing.Image.{finished-at, stored-is}
 

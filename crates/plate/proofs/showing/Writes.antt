@@ -7,8 +7,8 @@ use native.Mathlib.Numerals.{add-one}
 use lib.ListN.{length, getD, set, length-set}
 use lib.Seq.{getD-set-same, getD-set-other}
 use borrow.Author.Count.{below-more}
-use Rattle.kernels.proofs.numbers.Choices.{by-lt, by-eq}
-use Rattle.plate.specs.code.Passes.{rowStart, Written}
+use Rattle.kernels_model.proofs.numbers.Choices.{by-lt, by-eq}
+use Rattle.plate.specs.Passes.{rowStart, Written}
 
 -- the rows share no cell
 abbrev pub Apart : ℕ → ℕ → (ℕ → ℕ) → Type 0

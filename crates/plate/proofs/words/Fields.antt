@@ -4,11 +4,13 @@ use Prim.Native.Nat.{ℕ, _+_, _*_, _/_, _%_, _<_, _^_}
 use native.Mathlib.Nat.{mod-eq-of-lt, mul-comm, add-comm}
 use lib.Bits.{bitAnd, bitOr, or-shifted-r, and-mask}
 use borrow.Author.Tests.{lt-leb}
-use Rattle.kernels.specs.declared.shape.ShapeRead.{ShapeRead}
-use Rattle.kernels.specs.Shape.{shapeOf}
-use Rattle.plate.specs.Layout.{Size, places}
-use Rattle.plate.specs.Word.{Unpacked, pixelIn, readWord, entryIn, readEntry}
-use Rattle.plate.specs.Fixed.{wordBits}
+use Rattle.kernels_model.specs.declared.shape.ShapeRead.{ShapeRead}
+use Rattle.kernels_model.specs.Shape.{shapeOf}
+use Rattle.plate_model.specs.declared.size.Size.{Size}
+use Rattle.plate_model.specs.Layout.{places}
+use Rattle.plate_model.specs.declared.word.Unpacked.{Unpacked}
+use Rattle.plate_model.specs.Word.{pixelIn, readWord, entryIn, readEntry}
+use Rattle.plate_model.specs.Fixed.{wordBits}
 
 -- `low | high << k`
 pub or-field : (k low high : ℕ) → low < 2 ^ k → high * 2 ^ k < 2 ^ 64 → bitOr low (high * 2 ^ k % 2 ^ 64) ≡ low + 2 ^ k * high

@@ -4,15 +4,16 @@ use mathlib.Core.List.{List, []}
 use Prim.Native.Nat.{ℕ, zero, suc}
 use native.Mathlib.Omega.{arith}
 use borrow.Author.Tests.{ne-eqb}
-use Rattle.plate.specs.declared.state.Answer.{Answer}
-use Rattle.plate.specs.declared.state.Outcome.{Outcome}
-use Rattle.plate.specs.declared.state.Outcome.the-variants.{Accepted, Refused}
-use Rattle.plate.specs.Refusal.{outcomeNumber}
-use Rattle.plate.proofs.demands.Reports.{refusal-some}
-use Rattle.records.specs.Text.{numbered, refusedWord, showText}
-use Rattle.records.specs.Record.{Sizes, Cells}
-use Rattle.records.specs.Run.{answerText}
-use Rattle.records.specs.Machine.{Opened, said, stoppedBy, openedBy, shownText}
+use Rattle.plate_model.specs.declared.state.Answer.{Answer}
+use Rattle.plate_model.specs.declared.state.Outcome.{Outcome}
+use Rattle.plate_model.specs.declared.state.Outcome.the-variants.{Accepted, Refused}
+use Rattle.plate_model.specs.Refusal.{outcomeNumber}
+use Rattle.plate_model.proofs.demands.Reports.{refusal-some}
+use Rattle.records_model.specs.Text.{numbered, refusedWord, showText}
+use Rattle.records_model.specs.declared.record.Stop.the-variants.{Sizes, Cells}
+use Rattle.records_model.specs.Run.{answerText}
+use Rattle.records_model.specs.declared.perform.Stage.the-variants.{Opened}
+use Rattle.records_model.specs.Machine.{said, stoppedBy, openedBy, shownText}
 
 -- a line for each number but 0
 pub no-answer : (k n : ℕ) → n ≡ 0 → answerText k n ≡ []

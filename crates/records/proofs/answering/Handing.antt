@@ -4,11 +4,13 @@ use mathlib.Core.List.{List, [], _++_}
 use Prim.Native.Nat.{ℕ, _+_, _-_, _≤_}
 use native.Mathlib.Omega.{arith}
 use lib.ListN.{length, take, drop, length-append}
-use Rattle.records.specs.Text.{withText}
-use Rattle.records.specs.Machine.{Buffers, Did, Machine, standing, doneBy, Progress, fed, feedAll, finishOf, takes, Advanced, AdvanceLeft, advanceLeft, advanceCall, Closing, closing, closeWith, finishCall}
-use Rattle.records.specs.code.Written.{Wrote}
-use Rattle.records.specs.code.Done.{Done, DoneOut, doneWith, doneOf}
-use Rattle.records.specs.code.Handed.{Handed, handed, handOut, handAfter}
+use Rattle.records_model.specs.Text.{withText}
+use Rattle.records_model.specs.declared.machine.Machine.{Machine}
+use Rattle.records_model.specs.declared.advance.Advanced.{Advanced}
+use Rattle.records_model.specs.Machine.{Buffers, Did, standing, doneBy, Progress, fed, feedAll, finishOf, takes, AdvanceLeft, advanceLeft, advanceCall, Closing, closing, closeWith, finishCall}
+use Rattle.records.specs.Written.{Wrote}
+use Rattle.records.specs.Done.{Done, DoneOut, doneWith, doneOf}
+use Rattle.records.specs.Handed.{Handed, handed, handOut, handAfter}
 use Rattle.records.proofs.writing.Slices.{written-none, written-rest}
 
 -- FED

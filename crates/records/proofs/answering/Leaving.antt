@@ -4,12 +4,14 @@ use mathlib.Core.List.{List, [], _++_}
 use Prim.Native.Nat.{ℕ}
 use native.Mathlib.Omega.{arith}
 use lib.ListN.{length, take, drop}
-use Rattle.plate.specs.declared.state.State.{State}
-use Rattle.plate.specs.declared.state.Answer.{Answer}
-use Rattle.plate.specs.Lent.{Lent, Views, views}
-use Rattle.plate.specs.Calls.{showCall}
-use Rattle.records.specs.Machine.{Stage, Buffers, buffers, plateOf, holding, planesOf, sumsOf, placesOf, viewsOf, viewsBack, Request, Said, said, did, serving, showOn}
-use Rattle.records.specs.code.Done.{Done, doneWith, doneOf, Says, Served, ShowDone}
+use Rattle.plate_model.specs.declared.state.State.{State}
+use Rattle.plate_model.specs.declared.state.Answer.{Answer}
+use Rattle.plate_model.specs.Lent.{Lent, Views, views}
+use Rattle.plate_model.specs.Calls.{showCall}
+use Rattle.records_model.specs.declared.perform.Stage.{Stage}
+use Rattle.records_model.specs.declared.request.Request.{Request}
+use Rattle.records_model.specs.Machine.{Buffers, buffers, plateOf, holding, planesOf, sumsOf, placesOf, viewsOf, viewsBack, Said, said, did, serving, showOn}
+use Rattle.records.specs.Done.{Done, doneWith, doneOf, Says, Served, ShowDone}
 use Rattle.records.proofs.writing.Slices.{wrote-nothing}
 
 -- by its parts

@@ -3,10 +3,11 @@ use mathlib.Core.Path.{_≡_}
 use mathlib.Core.List.{List, _++_}
 use Prim.Native.Nat.{ℕ}
 use lib.ListN.{take, drop}
-use Rattle.plate.specs.declared.state.Answer.{Answer}
-use Rattle.plate.specs.Lent.{Lent, lent}
-use Rattle.plate.specs.Calls.{left}
-use Rattle.records.specs.Machine.{planesOf, placesOf, frontOf, frontBack, Request, requestSize, requestCall, requested}
+use Rattle.plate_model.specs.declared.state.Answer.{Answer}
+use Rattle.plate_model.specs.Lent.{Lent, lent}
+use Rattle.plate_model.specs.Calls.{left}
+use Rattle.records_model.specs.declared.request.Request.{Request}
+use Rattle.records_model.specs.Machine.{planesOf, placesOf, frontOf, frontBack, requestSize, requestCall, requested}
 
 -- the call is lent n cells and m places
 pub request-is : (q : Request) (l : Lent) (n m : ℕ) {planes pixels log : List ℕ} (r : Answer) → n ≡ planesOf (requestSize q)

@@ -4,24 +4,24 @@ use mathlib.Core.List.{List}
 use Prim.Native.Nat.{ℕ, _+_, _*_, _≤_}
 use native.Mathlib.Omega.{arith}
 use lib.ListN.{length}
-use Rattle.kernels.proofs.numbers.Choices.{by-lt}
-use Rattle.kernels.proofs.numbers.Products.{product-le}
-use Rattle.plate.specs.Layout.{wide, high, padded}
-use Rattle.plate.specs.declared.size.Size.{Size}
-use Rattle.plate.specs.declared.state.State.{State}
-use Rattle.plate.specs.declared.state.Answer.{Answer}
-use Rattle.plate.specs.declared.state.Outcome.{Outcome}
-use Rattle.plate.specs.declared.state.Outcome.the-variants.{Accepted, Refused}
-use Rattle.plate.specs.Refusal.{outcomeNumber, showCheck}
-use Rattle.plate.specs.Lent.{Views}
-use Rattle.plate.specs.Calls.{Shown, shown, showBy, showCall}
-use Rattle.plate.proofs.checks.Passed.{sizes-passed, length-passed}
-use Rattle.records.specs.Machine.{planesOf}
-use Rattle.records.proofs.lending.Rooms.{no-room}
+use Rattle.kernels_model.proofs.numbers.Choices.{by-lt}
+use Rattle.kernels_model.proofs.numbers.Products.{product-le}
+use Rattle.plate_model.specs.Layout.{wide, high, padded}
+use Rattle.plate_model.specs.declared.size.Size.{Size}
+use Rattle.plate_model.specs.declared.state.State.{State}
+use Rattle.plate_model.specs.declared.state.Answer.{Answer}
+use Rattle.plate_model.specs.declared.state.Outcome.{Outcome}
+use Rattle.plate_model.specs.declared.state.Outcome.the-variants.{Accepted, Refused}
+use Rattle.plate_model.specs.Refusal.{outcomeNumber, showCheck}
+use Rattle.plate_model.specs.Lent.{Views}
+use Rattle.plate_model.specs.Calls.{Shown, shown, showBy, showCall}
+use Rattle.plate_model.proofs.checks.Passed.{sizes-passed, length-passed}
+use Rattle.records_model.specs.Machine.{planesOf}
+use Rattle.records_model.proofs.lending.Rooms.{no-room}
 use Rattle.records.proofs.answering.Answers.{accepted-by}
-use Rattle.records.specs.Fixed.{cellsTop, textRoom}
-use Rattle.plate.specs.Fixed.{planesInAll, border}
-use Rattle.records.specs.code.Room.{lineRoom, rowsRoom}
+use Rattle.records_model.specs.Fixed.{cellsTop, textRoom}
+use Rattle.plate_model.specs.Fixed.{planesInAll, border}
+use Rattle.records.specs.Room.{lineRoom, rowsRoom}
 
 outcome-is : (o : Outcome) (s : State) (planes : List ℕ) (v : Views) → showBy o s planes v .answer .outcome ≡ o
 unfolding showBy

@@ -6,8 +6,8 @@ use native.Mathlib.Nat.{pow-suc}
 use native.Mathlib.Omega.{arith}
 use borrow.Author.Tests.{lt-ltb, le-ltb}
 use lib.ListN.{length, length-append}
-use Rattle.kernels.proofs.numbers.Choices.{by-lt}
-use Rattle.records.specs.Text.{digitZero, digitsBy, decimal}
+use Rattle.kernels_model.proofs.numbers.Choices.{by-lt}
+use Rattle.records_model.specs.Text.{digitZero, digitsBy, decimal}
 
 digits-one : (n k : ℕ) → k < 10 → digitsBy n k ≡ (digitZero + k) ∷ []
 unfolding digitsBy

@@ -5,8 +5,8 @@ use Prim.Native.Nat.{ℕ, zero, suc, _+_, _*_}
 use native.Mathlib.Numerals.{add-one}
 use native.Mathlib.Nat.{add-zero}
 use native.Mathlib.Omega.{arith}
-use Rattle.records.specs.Text.{space, newline, cellText, rowText, rowsText}
-use Rattle.records.specs.code.Written.{gapText}
+use Rattle.records_model.specs.Text.{space, newline, cellText, rowText, rowsText}
+use Rattle.records.specs.Written.{gapText}
 
 pub gap-first : (j : ℕ) → j ≡ 0 → gapText j ≡ []
 unfolding gapText

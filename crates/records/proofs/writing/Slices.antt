@@ -7,8 +7,8 @@ use native.Mathlib.Numerals.{add-one}
 use native.Mathlib.Omega.{arith}
 use lib.ListN.{length, take, drop, set, getD, length-append, length-drop, take-append-drop}
 use lib.Seq.{length-take-le, take-all, take-at, take-suc, drop-at, drop-drop, drop-length, set-split}
-use Rattle.records.specs.Text.{withText}
-use Rattle.records.specs.code.Written.{Wrote}
+use Rattle.records_model.specs.Text.{withText}
+use Rattle.records.specs.Written.{Wrote}
 
 -- up to its end, a text that is withText stands there
 head-length : (s : List ℕ) (at : ℕ) (t : List ℕ) → at ≤ length s → length (take at s ++ t) ≡ at + length t

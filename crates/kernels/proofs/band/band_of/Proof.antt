@@ -3,11 +3,11 @@
 use mathlib.Core.Path.{_≡_, sym, _∙_}
 use Prim.Native.Nat.{ℕ, _+_, _*_, _≤_}
 use native.Mathlib.Omega.{arith}
-use Rattle.kernels.specs.Choice.{within}
-use Rattle.kernels.specs.Shape.{topOf}
-use Rattle.kernels.specs.code.Bands.{ownTap}
-use Rattle.kernels.proofs.taps.ShapeNumbers.{boxes-some, boxes-few, top-small}
-use Rattle.kernels.proofs.taps.Bands.{height-low, row-narrow, own-small, band-under, band-above}
+use Rattle.kernels_model.specs.Choice.{within}
+use Rattle.kernels_model.specs.Shape.{topOf}
+use Rattle.kernels_model.specs.Band.{ownTap}
+use Rattle.kernels_model.proofs.taps.ShapeNumbers.{boxes-some, boxes-few, top-small}
+use Rattle.kernels_model.proofs.taps.Bands.{height-low, row-narrow, own-small, band-under, band-above}
 use borrow.Author.Needs.{needs}
 use Rattle.kernels.proofs.band.band_of.Statement.{statement}
 use Rattle.kernels.proofs.band.band_of.Tie as tie

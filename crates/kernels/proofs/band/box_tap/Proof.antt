@@ -4,11 +4,11 @@ use Prim.Native.Nat.{ℕ, _+_, _*_, _-_, _≤_, _<_}
 use native.Mathlib.Omega.{arith}
 use mir.Val.{Fits}
 use mir.Syntax.{w64}
-use Rattle.kernels.specs.Tap.{boxTap}
-use Rattle.kernels.proofs.numbers.Choices.{within-yes}
-use Rattle.kernels.proofs.numbers.Products.{product-le}
-use Rattle.kernels.proofs.taps.TapForms.{box-far, one-box}
-use Rattle.kernels.proofs.taps.BoxTaps.{two-boxes, three-boxes}
+use Rattle.kernels_model.specs.Tap.{boxTap}
+use Rattle.kernels_model.proofs.numbers.Choices.{within-yes}
+use Rattle.kernels_model.proofs.numbers.Products.{product-le}
+use Rattle.kernels_model.proofs.taps.TapForms.{box-far, one-box}
+use Rattle.kernels_model.proofs.taps.BoxTaps.{two-boxes, three-boxes}
 use borrow.Author.Needs.{needs}
 use Rattle.kernels.proofs.band.box_tap.Statement.{statement}
 use Rattle.kernels.proofs.band.box_tap.Tie as tie

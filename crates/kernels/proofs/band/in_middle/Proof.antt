@@ -1,6 +1,6 @@
 -- `band::in_middle` meets its contract: the branch is the test of the definition.
 use mathlib.Core.Path.{sym}
-use Rattle.kernels.proofs.numbers.Choices.{same-yes, same-no}
+use Rattle.kernels_model.proofs.numbers.Choices.{same-yes, same-no}
 use Rattle.kernels.proofs.band.in_middle.Statement.{statement}
 use Rattle.kernels.proofs.band.in_middle.Tie as tie
 

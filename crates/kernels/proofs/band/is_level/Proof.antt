@@ -2,7 +2,7 @@
 use mathlib.Core.Path.{sym, _∙_}
 use borrow.Author.Needs.{needs}
 use borrow.Author.Tests.{eq-eqb, ne-eqb}
-use Rattle.kernels.specs.code.Bands.{isLevel}
+use Rattle.kernels_model.specs.Band.{isLevel}
 use Rattle.kernels.proofs.band.is_level.Statement.{statement}
 use Rattle.kernels.proofs.band.is_level.Tie as tie
 

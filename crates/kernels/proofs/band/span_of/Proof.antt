@@ -2,8 +2,8 @@
 use mathlib.Core.Path.{sym}
 use Prim.Native.Nat.{_*_, _≤_}
 use native.Mathlib.Omega.{arith}
-use Rattle.kernels.proofs.numbers.Choices.{within-yes, within-no}
-use Rattle.kernels.proofs.numbers.Products.{product-le}
+use Rattle.kernels_model.proofs.numbers.Choices.{within-yes, within-no}
+use Rattle.kernels_model.proofs.numbers.Products.{product-le}
 use Rattle.kernels.proofs.band.span_of.Statement.{statement}
 use Rattle.kernels.proofs.band.span_of.Tie as tie
 

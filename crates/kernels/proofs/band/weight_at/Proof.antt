@@ -4,14 +4,14 @@ use mathlib.Core.Path.{_≡_, ap, sym, _∙_}
 use Prim.Native.Nat.{ℕ, suc, _+_, _*_, _^_, _≤_, _<_}
 use native.Mathlib.Omega.{arith}
 use borrow.Author.Tests.{eq-eqb, ne-eqb}
-use Rattle.kernels.specs.Choice.{same}
-use Rattle.kernels.specs.Shape.{boxesOf}
-use Rattle.kernels.specs.Tap.{boxTap}
-use Rattle.kernels.specs.code.Bands.{bandTap, bandWeight}
-use Rattle.kernels.proofs.numbers.Choices.{by-eq, within-yes, same-yes, same-no}
-use Rattle.kernels.proofs.numbers.Products.{product-le}
-use Rattle.kernels.proofs.taps.ShapeNumbers.{boxes-some, boxes-few}
-use Rattle.kernels.proofs.taps.Bands.{band-out, tap-small}
+use Rattle.kernels_model.specs.Choice.{same}
+use Rattle.kernels_model.specs.Shape.{boxesOf}
+use Rattle.kernels_model.specs.Tap.{boxTap}
+use Rattle.kernels_model.specs.Band.{bandTap, bandWeight}
+use Rattle.kernels_model.proofs.numbers.Choices.{by-eq, within-yes, same-yes, same-no}
+use Rattle.kernels_model.proofs.numbers.Products.{product-le}
+use Rattle.kernels_model.proofs.taps.ShapeNumbers.{boxes-some, boxes-few}
+use Rattle.kernels_model.proofs.taps.Bands.{band-out, tap-small}
 use borrow.Author.Needs.{needs}
 use Rattle.kernels.proofs.band.weight_at.Statement.{statement}
 use Rattle.kernels.proofs.band.weight_at.Tie as tie

@@ -2,7 +2,7 @@
 use mathlib.Core.Path.{_∙_, sym}
 use native.Mathlib.Omega.{arith}
 use borrow.Author.Needs.{needs}
-use Rattle.kernels.proofs.lenses.ThinLens.{Lawful, lawful, FarSmall, far-small, NearSmall, near-small, blur-far, blur-near}
+use Rattle.kernels_model.proofs.lenses.ThinLens.{Lawful, lawful, FarSmall, far-small, NearSmall, near-small, blur-far, blur-near}
 use Rattle.kernels.proofs.lens.blurred.Statement.{statement}
 use Rattle.kernels.proofs.lens.blurred.Tie as tie
 

@@ -2,7 +2,7 @@
 use mathlib.Core.Path.{sym}
 use native.Mathlib.Omega.{arith}
 use borrow.Author.Needs.{needs}
-use Rattle.kernels.proofs.lenses.ThinLens.{lens-true, lens-false}
+use Rattle.kernels_model.proofs.lenses.ThinLens.{lens-true, lens-false}
 use Rattle.kernels.proofs.lens.lawful_lens.Statement.{statement}
 use Rattle.kernels.proofs.lens.lawful_lens.Tie as tie
 

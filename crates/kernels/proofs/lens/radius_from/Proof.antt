@@ -4,10 +4,10 @@ use mathlib.Core.Bool.{true}
 use native.Mathlib.Omega.{arith}
 use borrow.Author.Needs.{needs}
 use borrow.Author.Tests.{not-true, not-false}
-use Rattle.kernels.specs.Fixed.{accepted}
-use Rattle.kernels.specs.Told.{told}
-use Rattle.kernels.specs.Lens.{lawfulLens, radiusTold}
-use Rattle.kernels.proofs.lenses.ThinLens.{no-lens, no-depth, in-pixels}
+use Rattle.kernels_model.specs.Fixed.{accepted}
+use Rattle.kernels_model.specs.Told.{told}
+use Rattle.kernels_model.specs.Lens.{lawfulLens, radiusTold}
+use Rattle.kernels_model.proofs.lenses.ThinLens.{no-lens, no-depth, in-pixels}
 use Rattle.kernels.proofs.lens.radius_from.Statement.{statement}
 use Rattle.kernels.proofs.lens.radius_from.Tie as tie
 

@@ -1,7 +1,7 @@
 -- `mark::draw` meets its contract: each arm hands out the drawing that the definition has for its shape.
 use mathlib.Core.Path.{refl}
 use borrow.Author.Needs.{needs}
-use Rattle.kernels.specs.code.Drawing.{drawingOf}
+use Rattle.kernels_model.specs.Drawing.{drawingOf}
 use Rattle.kernels.proofs.mark.draw.Statement.{statement}
 use Rattle.kernels.proofs.mark.draw.Tie as tie
 

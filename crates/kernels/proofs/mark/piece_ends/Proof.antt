@@ -1,7 +1,7 @@
 -- `mark::piece_ends` meets its contract: every difference is of a number that the edge and the rise leave room for.
 use mathlib.Core.Path.{refl}
 use borrow.Author.Needs.{needs}
-use Rattle.kernels.specs.code.Drawing.{outlineOf}
+use Rattle.kernels_model.specs.Drawing.{outlineOf}
 use Rattle.kernels.proofs.mark.piece_ends.Statement.{statement}
 use Rattle.kernels.proofs.mark.piece_ends.Tie as tie
 

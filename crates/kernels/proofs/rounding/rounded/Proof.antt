@@ -3,7 +3,7 @@ use mathlib.Core.Path.{sym}
 use Prim.Native.Nat.{_≤_}
 use native.Mathlib.Omega.{arith}
 use native.Mathlib.Nat.{mod-lt}
-use Rattle.kernels.proofs.numbers.Nearest.{quotient-half, nearest-down, nearest-up}
+use Rattle.kernels_model.proofs.numbers.Nearest.{quotient-half, nearest-down, nearest-up}
 use borrow.Author.Needs.{needs}
 use Rattle.kernels.proofs.rounding.rounded.Statement.{statement}
 use Rattle.kernels.proofs.rounding.rounded.Tie as tie

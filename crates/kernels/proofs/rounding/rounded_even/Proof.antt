@@ -4,7 +4,7 @@ use mathlib.Core.Path.{sym}
 use Prim.Native.Nat.{_≤_}
 use native.Mathlib.Omega.{arith}
 use native.Mathlib.Nat.{mod-lt}
-use Rattle.kernels.proofs.numbers.Nearest.{quotient-half, even-down, even-up}
+use Rattle.kernels_model.proofs.numbers.Nearest.{quotient-half, even-down, even-up}
 use borrow.Author.Needs.{needs}
 use Rattle.kernels.proofs.rounding.rounded_even.Statement.{statement}
 use Rattle.kernels.proofs.rounding.rounded_even.Tie as tie

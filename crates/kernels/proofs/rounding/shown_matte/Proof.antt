@@ -1,6 +1,6 @@
 -- Adding a half and dividing is the definition's quotient with both sides halved.
 use native.Mathlib.Omega.{arith}
-use Rattle.kernels.specs.Rounding.{nearest, shownMatte}
+use Rattle.kernels_model.specs.Rounding.{nearest, shownMatte}
 use borrow.Author.Needs.{needs}
 use Rattle.kernels.proofs.rounding.shown_matte.Statement.{statement}
 use Rattle.kernels.proofs.rounding.shown_matte.Tie as tie

@@ -1,7 +1,7 @@
 -- `rounded_even` gives the nearest, and the branch its minimum with the top.
 use mathlib.Core.Path.{sym}
 use native.Mathlib.Omega.{arith}
-use Rattle.kernels.proofs.numbers.Nearest.{value-none, value-some}
+use Rattle.kernels_model.proofs.numbers.Nearest.{value-none, value-some}
 use borrow.Author.Needs.{needs}
 use Rattle.kernels.proofs.rounding.shown_value.Statement.{statement}
 use Rattle.kernels.proofs.rounding.shown_value.Tie as tie

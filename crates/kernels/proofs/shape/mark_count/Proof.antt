@@ -1,7 +1,7 @@
 -- A kernel has few marks, so their sum fits.
 use native.Mathlib.Omega.{arith}
 use borrow.Author.Needs.{needs}
-use Rattle.kernels.proofs.taps.ShapeNumbers.{count-few}
+use Rattle.kernels_model.proofs.taps.ShapeNumbers.{count-few}
 use Rattle.kernels.proofs.shape.mark_count.Statement.{statement}
 use Rattle.kernels.proofs.shape.mark_count.Tie as tie
 

@@ -1,7 +1,7 @@
 -- `boxes` gives the number of boxes, and at most 3 of a radius below 256 do not wrap.
 use native.Mathlib.Omega.{arith}
-use Rattle.kernels.proofs.numbers.Products.{product-le}
-use Rattle.kernels.proofs.taps.ShapeNumbers.{boxes-few}
+use Rattle.kernels_model.proofs.numbers.Products.{product-le}
+use Rattle.kernels_model.proofs.taps.ShapeNumbers.{boxes-few}
 use borrow.Author.Needs.{needs}
 use Rattle.kernels.proofs.shape.reach.Statement.{statement}
 use Rattle.kernels.proofs.shape.reach.Tie as tie

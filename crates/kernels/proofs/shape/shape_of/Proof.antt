@@ -1,8 +1,8 @@
 -- Each number of the match is the number of its shape, and a number past them all is refused.
 use mathlib.Core.Path.{ap, sym}
 use native.Mathlib.Omega.{arith}
-use Rattle.kernels.specs.Shape.{shapeTold, shapeFor}
-use Rattle.kernels.proofs.taps.ShapeNumbers.{shape-above}
+use Rattle.kernels_model.specs.Shape.{shapeTold, shapeFor}
+use Rattle.kernels_model.proofs.taps.ShapeNumbers.{shape-above}
 use Rattle.kernels.proofs.shape.shape_of.Statement.{statement}
 use Rattle.kernels.proofs.shape.shape_of.Tie as tie
 

@@ -1,6 +1,6 @@
 -- `top` and `boxes` give the definition's numbers, and the branch gives their minimum, which a byte holds.
 use native.Mathlib.Omega.{arith}
-use Rattle.kernels.proofs.taps.ShapeNumbers.{boxes-some, top-small}
+use Rattle.kernels_model.proofs.taps.ShapeNumbers.{boxes-some, top-small}
 use borrow.Author.Needs.{needs}
 use Rattle.kernels.proofs.shape.top_under.Statement.{statement}
 use Rattle.kernels.proofs.shape.top_under.Tie as tie

@@ -3,8 +3,8 @@ use Prim.Native.Nat.{ℕ, _+_, _*_, _≤_}
 use native.Mathlib.Omega.{arith}
 use mir.Val.{Fits}
 use mir.Syntax.{w32}
-use Rattle.kernels.proofs.numbers.Products.{product-le}
-use Rattle.kernels.proofs.taps.Areas.{countedArea, area-counted}
+use Rattle.kernels_model.proofs.numbers.Products.{product-le}
+use Rattle.kernels_model.proofs.taps.Areas.{countedArea, area-counted}
 use borrow.Author.Needs.{needs}
 use Rattle.kernels.proofs.share.area_of.Statement.{statement}
 use Rattle.kernels.proofs.share.area_of.Tie as tie

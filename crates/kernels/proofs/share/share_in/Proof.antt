@@ -3,13 +3,13 @@ use mathlib.Core.Path.{_≡_, sym, _∙_}
 use Prim.Native.Nat.{ℕ, _+_, _*_, _/_, _^_}
 use lib.ListN.{getD}
 use denote.Ref.{now}
-use Rattle.kernels.specs.Fixed.{radii}
+use Rattle.kernels_model.specs.Fixed.{radii}
 use native.Mathlib.Omega.{arith}
 use lib.Bits.{bitAnd, and-mask}
-use Rattle.kernels.specs.Share.{shareFrom, shareIn}
+use Rattle.kernels_model.specs.Share.{shareFrom, shareIn}
 use mir.Facts.{fits-mask}
-use Rattle.kernels.proofs.taps.ShapeNumbers.{number-le}
-use Rattle.kernels.proofs.taps.Shares.{share-there, share-nowhere}
+use Rattle.kernels_model.proofs.taps.ShapeNumbers.{number-le}
+use Rattle.kernels_model.proofs.taps.Shares.{share-there, share-nowhere}
 use borrow.Author.Needs.{needs}
 use Rattle.kernels.proofs.share.share_in.Statement.{statement}
 use Rattle.kernels.proofs.share.share_in.Tie as tie

@@ -2,9 +2,9 @@
 use mathlib.Core.Path.{sym}
 use native.Mathlib.Omega.{arith}
 use native.Mathlib.Nat.{mod-eq-sub-div-mul}
-use Rattle.kernels.specs.Tap.{shareFor, restFor}
-use Rattle.kernels.proofs.taps.Areas.{area-some}
-use Rattle.kernels.proofs.taps.Shares.{parts-under, parts-above}
+use Rattle.kernels_model.specs.Tap.{shareFor, restFor}
+use Rattle.kernels_model.proofs.taps.Areas.{area-some}
+use Rattle.kernels_model.proofs.taps.Shares.{parts-under, parts-above}
 use borrow.Author.Needs.{needs}
 use Rattle.kernels.proofs.share.share_of.Statement.{statement}
 use Rattle.kernels.proofs.share.share_of.Tie as tie

@@ -1,10 +1,10 @@
 -- `share::shares` meets its contract: antt computes the test of the whole table, which is the table's rule at each row.
 use mathlib.Core.Path.{refl}
-use Rattle.kernels.specs.Choice.{within}
-use Rattle.kernels.specs.Tap.{shareFor, restFor}
-use Rattle.kernels.proofs.taps.Areas.{countedArea}
-use Rattle.kernels.proofs.taps.ValueLists.{valuesFrom}
-use Rattle.kernels.proofs.taps.Shares.{quickRow, quickRowAt, table-tested}
+use Rattle.kernels_model.specs.Choice.{within}
+use Rattle.kernels_model.specs.Tap.{shareFor, restFor}
+use Rattle.kernels_model.proofs.taps.Areas.{countedArea}
+use Rattle.kernels_model.proofs.taps.ValueLists.{valuesFrom}
+use Rattle.kernels_model.proofs.taps.Shares.{quickRow, quickRowAt, table-tested}
 use Rattle.kernels.proofs.share.shares.Statement.{statement}
 use Rattle.kernels.proofs.share.shares.Tie as tie
 

@@ -4,13 +4,16 @@ use native.Mathlib.Omega.{arith}
 use denote.Ref.{now}
 use lib.ListN.{length, getD}
 use borrow.Author.Needs.{needs}
-use Rattle.kernels.proofs.taps.ShapeNumbers.{shape-read}
-use Rattle.plate.specs.Lent.{Sized, sized}
-use Rattle.plate.specs.Word.{Whole, readWord}
-use Rattle.plate.specs.Refusal.{Accepted, putCheck}
-use Rattle.plate.specs.Change.{askedPlace, putOver, putReadBy, putRead}
-use Rattle.plate.proofs.checks.Conditions.{unknown-not}
-use Rattle.plate.proofs.checks.Accepted.{PlateAccepted, plate-accepted, AskAccepted, ask-accepted}
+use Rattle.kernels_model.proofs.taps.ShapeNumbers.{shape-read}
+use Rattle.plate_model.specs.declared.lent.Sized.{Sized}
+use Rattle.plate_model.specs.Lent.{sized}
+use Rattle.plate_model.specs.declared.word.Unpacked.the-variants.{Whole}
+use Rattle.plate_model.specs.Word.{readWord}
+use Rattle.plate_model.specs.declared.state.Outcome.the-variants.{Accepted}
+use Rattle.plate_model.specs.Refusal.{putCheck}
+use Rattle.plate_model.specs.Change.{askedPlace, putOver, putReadBy, putRead}
+use Rattle.plate_model.proofs.checks.Conditions.{unknown-not}
+use Rattle.plate_model.proofs.checks.Accepted.{PlateAccepted, plate-accepted, AskAccepted, ask-accepted}
 use Rattle.plate.proofs.change.read_put.Statement.{statement}
 use Rattle.plate.proofs.change.read_put.Tie as tie
 

@@ -5,13 +5,17 @@ use native.Mathlib.Omega.{arith}
 use denote.Ref.{now}
 use lib.ListN.{length, getD}
 use borrow.Author.Needs.{needs}
-use Rattle.plate.specs.Layout.{places}
-use Rattle.plate.specs.Lent.{Sized, sized}
-use Rattle.plate.specs.Word.{Whole, readWord, Logged, readEntry}
-use Rattle.plate.specs.Refusal.{Accepted, undoCheck}
-use Rattle.plate.specs.Change.{undoOver, undoEntry, undoReadBy, undoRead}
-use Rattle.plate.proofs.checks.Accepted.{PlateAccepted, plate-accepted, some-accepted}
-use Rattle.plate.proofs.words.Words.{entry-read}
+use Rattle.plate_model.specs.Layout.{places}
+use Rattle.plate_model.specs.declared.lent.Sized.{Sized}
+use Rattle.plate_model.specs.Lent.{sized}
+use Rattle.plate_model.specs.declared.word.Unpacked.the-variants.{Whole}
+use Rattle.plate_model.specs.declared.word.EntryRead.the-variants.{Logged}
+use Rattle.plate_model.specs.Word.{readWord, readEntry}
+use Rattle.plate_model.specs.declared.state.Outcome.the-variants.{Accepted}
+use Rattle.plate_model.specs.Refusal.{undoCheck}
+use Rattle.plate_model.specs.Change.{undoOver, undoEntry, undoReadBy, undoRead}
+use Rattle.plate_model.proofs.checks.Accepted.{PlateAccepted, plate-accepted, some-accepted}
+use Rattle.plate_model.proofs.words.Words.{entry-read}
 use Rattle.plate.proofs.change.read_undo.Statement.{statement}
 use Rattle.plate.proofs.change.read_undo.Tie as tie
 

@@ -1,11 +1,11 @@
 -- Each test is the definition's, in its order; the shape and its top are the kernels'.
 use mathlib.Core.Path.{_≡_, sym, _∙_}
 use borrow.Author.Needs.{needs}
-use Rattle.kernels.specs.declared.shape.ShapeRead.the-variants.{Known}
-use Rattle.kernels.specs.Shape.{shapeOf}
-use Rattle.kernels.proofs.taps.ShapeNumbers.{shape-read}
-use Rattle.plate.specs.Refusal.{askCheck, placeCheck, shapeCheck, radiusCheck, refuseIf}
-use Rattle.plate.proofs.checks.Conditions.{tests}
+use Rattle.kernels_model.specs.declared.shape.ShapeRead.the-variants.{Known}
+use Rattle.kernels_model.specs.Shape.{shapeOf}
+use Rattle.kernels_model.proofs.taps.ShapeNumbers.{shape-read}
+use Rattle.plate_model.specs.Refusal.{askCheck, placeCheck, shapeCheck, radiusCheck, refuseIf}
+use Rattle.plate_model.proofs.checks.Conditions.{tests}
 use Rattle.plate.proofs.check.check_ask.Statement.{statement}
 use Rattle.plate.proofs.check.check_ask.Tie as tie
 

@@ -2,10 +2,12 @@
 use mathlib.Core.Path.{_≡_, sym, _∙_}
 use borrow.Author.Needs.{needs}
 use borrow.Author.Tests.{lt-ltb, le-ltb}
-use Rattle.plate.specs.Refusal.{Outcome, Accepted, refuseIf, sizesCheck, lentCheck, inputsCheck, openCheck}
-use Rattle.plate.proofs.checks.Passed.{sizes-passed}
+use Rattle.plate_model.specs.declared.state.Outcome.{Outcome}
+use Rattle.plate_model.specs.declared.state.Outcome.the-variants.{Accepted}
+use Rattle.plate_model.specs.Refusal.{refuseIf, sizesCheck, lentCheck, inputsCheck, openCheck}
+use Rattle.plate_model.proofs.checks.Passed.{sizes-passed}
 use Rattle.plate.proofs.checks.Chains.{open-before, inputs-before}
-use Rattle.plate.specs.code.Filling.{fillLengths}
+use Rattle.plate.specs.Filling.{fillLengths}
 use Rattle.plate.proofs.check.check_fill.Statement.{statement}
 use Rattle.plate.proofs.check.check_fill.Tie as tie
 

@@ -1,7 +1,7 @@
 -- Each test is the definition's.
 use native.Mathlib.Omega.{arith}
-use Rattle.plate.specs.Refusal.{inputsCheck, refuseIf}
-use Rattle.plate.proofs.checks.Conditions.{tests}
+use Rattle.plate_model.specs.Refusal.{inputsCheck, refuseIf}
+use Rattle.plate_model.proofs.checks.Conditions.{tests}
 use Rattle.plate.proofs.check.check_inputs.Statement.{statement}
 use Rattle.plate.proofs.check.check_inputs.Tie as tie
 

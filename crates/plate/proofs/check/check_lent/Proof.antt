@@ -2,11 +2,11 @@
 use mathlib.Core.Path.{_≡_, ap}
 use native.Mathlib.Omega.{arith}
 use borrow.Author.Needs.{needs}
-use Rattle.plate.specs.Layout.{padded, places}
-use Rattle.plate.specs.Refusal.{lentCheck, refuseIf}
-use Rattle.plate.proofs.checks.Conditions.{tests}
-use Rattle.plate.proofs.numbers.Extents.{padded-small}
-use Rattle.plate.specs.code.Bounds.{Frame}
+use Rattle.plate_model.specs.Layout.{padded, places}
+use Rattle.plate_model.specs.Refusal.{lentCheck, refuseIf}
+use Rattle.plate_model.proofs.checks.Conditions.{tests}
+use Rattle.plate_model.proofs.numbers.Extents.{padded-small}
+use Rattle.plate.specs.Frame.{Frame}
 use Rattle.plate.proofs.check.check_lent.Statement.{statement}
 use Rattle.plate.proofs.check.check_lent.Tie as tie
 

@@ -1,12 +1,13 @@
 -- The sizes' refusal comes first; past it they are lawful, and the lengths' check is the rest.
 use mathlib.Core.Path.{sym, _∙_}
 use borrow.Author.Needs.{needs}
-use Rattle.plate.specs.Refusal.{Accepted, openCheck}
-use Rattle.plate.proofs.checks.Passed.{sizes-passed}
+use Rattle.plate_model.specs.declared.state.Outcome.the-variants.{Accepted}
+use Rattle.plate_model.specs.Refusal.{openCheck}
+use Rattle.plate_model.proofs.checks.Passed.{sizes-passed}
 use Rattle.plate.proofs.checks.Chains.{sizes-before}
 use Rattle.plate.proofs.check.check_open.Statement.{statement}
 use Rattle.plate.proofs.check.check_open.Tie as tie
-use Rattle.plate.specs.Lent.{sized}
+use Rattle.plate_model.specs.Lent.{sized}
 
 check-sizes-requires : tie.Need-check-sizes-requires
 check-sizes-requires c κs = search needs

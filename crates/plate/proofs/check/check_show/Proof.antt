@@ -2,9 +2,10 @@
 use mathlib.Core.Path.{_≡_, sym, _∙_}
 use native.Mathlib.Omega.{arith}
 use borrow.Author.Needs.{needs}
-use Rattle.plate.specs.Refusal.{Accepted, totalCheck, viewsCheck, showCheck, refuseIf}
-use Rattle.plate.proofs.checks.Conditions.{tests}
-use Rattle.plate.proofs.checks.Passed.{sizes-passed}
+use Rattle.plate_model.specs.declared.state.Outcome.the-variants.{Accepted}
+use Rattle.plate_model.specs.Refusal.{totalCheck, viewsCheck, showCheck, refuseIf}
+use Rattle.plate_model.proofs.checks.Conditions.{tests}
+use Rattle.plate_model.proofs.checks.Passed.{sizes-passed}
 use Rattle.plate.proofs.checks.Chains.{total-before}
 use Rattle.plate.proofs.check.check_show.Statement.{statement}
 use Rattle.plate.proofs.check.check_show.Tie as tie

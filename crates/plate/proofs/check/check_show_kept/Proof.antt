@@ -2,11 +2,12 @@
 use mathlib.Core.Path.{sym, _∙_}
 use native.Mathlib.Omega.{arith}
 use borrow.Author.Needs.{needs}
-use Rattle.plate.specs.Refusal.{Accepted, refuseIf, showKeptCheck}
-use Rattle.plate.specs.code.Bounds.{LawfulSize}
-use Rattle.plate.proofs.numbers.Extents.{places-small}
-use Rattle.plate.proofs.checks.Conditions.{tests}
-use Rattle.plate.proofs.checks.Passed.{sizes-passed, sizes-pass, length-pass}
+use Rattle.plate_model.specs.declared.state.Outcome.the-variants.{Accepted}
+use Rattle.plate_model.specs.Refusal.{refuseIf, showKeptCheck}
+use Rattle.plate_model.specs.Table.{LawfulSize}
+use Rattle.plate_model.proofs.numbers.Extents.{places-small}
+use Rattle.plate_model.proofs.checks.Conditions.{tests}
+use Rattle.plate_model.proofs.checks.Passed.{sizes-passed, sizes-pass, length-pass}
 use Rattle.plate.proofs.checks.Chains.{sizes-before}
 use Rattle.plate.proofs.check.check_show_kept.Statement.{statement}
 use Rattle.plate.proofs.check.check_show_kept.Tie as tie

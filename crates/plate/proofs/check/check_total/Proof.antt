@@ -2,13 +2,15 @@
 use mathlib.Core.Path.{_≡_, ap, sym, _∙_}
 use native.Mathlib.Omega.{arith}
 use borrow.Author.Needs.{needs}
-use Rattle.plate.specs.Layout.{padded}
-use Rattle.plate.specs.Refusal.{Accepted, totalCheck, refuseIf}
-use Rattle.plate.specs.code.Bounds.{LawfulSize, Frame}
-use Rattle.plate.proofs.checks.Conditions.{tests}
-use Rattle.plate.proofs.checks.Passed.{sizes-passed, sizes-pass}
+use Rattle.plate_model.specs.Layout.{padded}
+use Rattle.plate_model.specs.declared.state.Outcome.the-variants.{Accepted}
+use Rattle.plate_model.specs.Refusal.{totalCheck, refuseIf}
+use Rattle.plate_model.specs.Table.{LawfulSize}
+use Rattle.plate.specs.Frame.{Frame}
+use Rattle.plate_model.proofs.checks.Conditions.{tests}
+use Rattle.plate_model.proofs.checks.Passed.{sizes-passed, sizes-pass}
 use Rattle.plate.proofs.checks.Chains.{sizes-before}
-use Rattle.plate.proofs.numbers.Extents.{padded-small}
+use Rattle.plate_model.proofs.numbers.Extents.{padded-small}
 use Rattle.plate.proofs.check.check_total.Statement.{statement}
 use Rattle.plate.proofs.check.check_total.Tie as tie
 

@@ -1,7 +1,7 @@
 -- The planes are those that `exchange_marks` leaves, the word is the packed pixel, and the counts are few.
 use native.Mathlib.Omega.{arith}
 use borrow.Author.Needs.{needs}
-use Rattle.kernels.proofs.taps.ShapeNumbers.{count-few}
+use Rattle.kernels_model.proofs.taps.ShapeNumbers.{count-few}
 use Rattle.plate.proofs.exchange.exchange.Statement.{statement}
 use Rattle.plate.proofs.exchange.exchange.Tie as tie
 

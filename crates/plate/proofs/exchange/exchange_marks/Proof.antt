@@ -2,8 +2,8 @@
 -- length.
 use mathlib.Core.Path.{refl, _∙_}
 use borrow.Author.Needs.{needs}
-use Rattle.plate.specs.Marks.{exchanged}
-use Rattle.plate.specs.code.Laying.{Placed}
+use Rattle.plate_model.specs.Marks.{exchanged}
+use Rattle.plate.specs.Laying.{Placed}
 use Rattle.plate.proofs.exchange.exchange_marks.Statement.{statement}
 use Rattle.plate.proofs.exchange.exchange_marks.Tie as tie
 

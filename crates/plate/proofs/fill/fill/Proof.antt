@@ -1,8 +1,8 @@
 -- A refusal hands on what was read; else the layer that was read is laid, and the log is empty.
 use mathlib.Core.Path.{_≡_, refl, sym, _∙_}
 use borrow.Author.Needs.{needs}
-use Rattle.plate.specs.Lent.{Lent, lent, sizedAs, Inputs, inputs}
-use Rattle.plate.specs.code.Filling.{layerRead}
+use Rattle.plate_model.specs.Lent.{Lent, lent, sizedAs, Inputs, inputs}
+use Rattle.plate.specs.Filling.{layerRead}
 use Rattle.plate.proofs.filling.Filling.{layer-refused, layer-ready, layer-filled}
 use Rattle.plate.proofs.fill.fill.Statement.{statement}
 use Rattle.plate.proofs.fill.fill.Tie as tie

@@ -4,9 +4,9 @@ use mathlib.Core.Path.{_≡_, ap}
 use native.Mathlib.Omega.{arith}
 use lib.ListN.{length}
 use borrow.Author.Needs.{needs}
-use Rattle.plate.specs.Layout.{sumsInAll}
-use Rattle.plate.specs.code.Passes.{Picture}
-use Rattle.plate.specs.code.Showing.{BothIn}
+use Rattle.plate_model.specs.Layout.{sumsInAll}
+use Rattle.plate.specs.Passes.{Picture}
+use Rattle.plate.specs.Showing.{BothIn}
 use Rattle.plate.proofs.showing.BothPictures.{both-on}
 use Rattle.plate.proofs.showing.Image.{ready-both}
 use Rattle.plate.proofs.showing.Keeping.{all-kept}

@@ -3,8 +3,8 @@ use Prim.Native.Nat.{_+_, _-_, _≤_}
 use native.Mathlib.Omega.{arith}
 use lib.ListN.{getD, length-set}
 use borrow.Author.Needs.{needs}
-use Rattle.plate.specs.code.Passes.{rowStart}
-use Rattle.plate.specs.code.Keeping.{KeepIn}
+use Rattle.plate.specs.Passes.{rowStart}
+use Rattle.plate.specs.Keeping.{KeepIn}
 use Rattle.plate.proofs.showing.Writes.{Writing, writing-start, writing-all}
 use Rattle.plate.proofs.showing.Keeping.{keeping-next}
 use Rattle.plate.proofs.kept.keep_row.Statement.{statement}

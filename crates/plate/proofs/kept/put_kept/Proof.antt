@@ -3,12 +3,14 @@ use mathlib.Core.Path.{_≡_, sym, _∙_}
 use native.Mathlib.Omega.{arith}
 use denote.Ref.{now}
 use borrow.Author.Needs.{needs}
-use Rattle.plate.specs.Refusal.{Accepted}
-use Rattle.plate.specs.Lent.{Lent, lent, sizedAs, Ask, ask, Canvas, canvas}
-use Rattle.plate.specs.Change.{ToChange, putRead}
-use Rattle.plate.specs.Calls.{putBy}
-use Rattle.plate.specs.Kept.{keptRead, canvasFirst, canvasBy, putKeptBy, putKeptCall}
-use Rattle.plate.proofs.changing.Changes.{put-ready}
+use Rattle.plate_model.specs.declared.state.Outcome.the-variants.{Accepted}
+use Rattle.plate_model.specs.declared.lent.Ask.{Ask}
+use Rattle.plate_model.specs.Lent.{Lent, lent, sizedAs, ask, Canvas, canvas}
+use Rattle.plate_model.specs.declared.change.ChangeRead.the-variants.{ToChange}
+use Rattle.plate_model.specs.Change.{putRead}
+use Rattle.plate_model.specs.Calls.{putBy}
+use Rattle.plate_model.specs.Kept.{keptRead, canvasFirst, canvasBy, putKeptBy, putKeptCall}
+use Rattle.plate_model.proofs.changing.Changes.{put-ready}
 use Rattle.plate.proofs.mending.Rows.{mend-ready}
 use Rattle.plate.proofs.kept.put_kept.Statement.{statement}
 use Rattle.plate.proofs.kept.put_kept.Tie as tie

@@ -3,9 +3,10 @@ use mathlib.Core.Path.{_≡_, sym, _∙_}
 use denote.Ref.{now}
 use lib.ListN.{length}
 use borrow.Author.Needs.{needs}
-use Rattle.plate.specs.Refusal.{Accepted, showKeptCheck}
-use Rattle.plate.specs.Calls.{showBy}
-use Rattle.plate.specs.Kept.{sumsBy, showKeptBy, showKeptCall}
+use Rattle.plate_model.specs.declared.state.Outcome.the-variants.{Accepted}
+use Rattle.plate_model.specs.Refusal.{showKeptCheck}
+use Rattle.plate_model.specs.Calls.{showBy}
+use Rattle.plate_model.specs.Kept.{sumsBy, showKeptBy, showKeptCall}
 use Rattle.plate.proofs.showing.Keeping.{show-kept-ready}
 use Rattle.plate.proofs.kept.show_kept.Statement.{statement}
 use Rattle.plate.proofs.kept.show_kept.Tie as tie

@@ -2,12 +2,13 @@
 use mathlib.Core.Path.{_≡_, sym, _∙_}
 use denote.Ref.{now}
 use borrow.Author.Needs.{needs}
-use Rattle.plate.specs.Refusal.{Accepted}
-use Rattle.plate.specs.Lent.{Lent, lent, sizedAs, Canvas, canvas}
-use Rattle.plate.specs.Change.{ToChange, undoRead}
-use Rattle.plate.specs.Calls.{undoBy}
-use Rattle.plate.specs.Kept.{keptRead, canvasFirst, canvasBy, undoKeptBy, undoKeptCall}
-use Rattle.plate.proofs.changing.Changes.{undo-ready}
+use Rattle.plate_model.specs.declared.state.Outcome.the-variants.{Accepted}
+use Rattle.plate_model.specs.Lent.{Lent, lent, sizedAs, Canvas, canvas}
+use Rattle.plate_model.specs.declared.change.ChangeRead.the-variants.{ToChange}
+use Rattle.plate_model.specs.Change.{undoRead}
+use Rattle.plate_model.specs.Calls.{undoBy}
+use Rattle.plate_model.specs.Kept.{keptRead, canvasFirst, canvasBy, undoKeptBy, undoKeptCall}
+use Rattle.plate_model.proofs.changing.Changes.{undo-ready}
 use Rattle.plate.proofs.mending.Rows.{mend-ready}
 use Rattle.plate.proofs.kept.undo_kept.Statement.{statement}
 use Rattle.plate.proofs.kept.undo_kept.Tie as tie

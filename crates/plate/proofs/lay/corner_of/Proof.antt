@@ -3,9 +3,9 @@ use Prim.Native.Nat.{_+_, _^_, _<_}
 use native.Mathlib.Omega.{arith}
 use borrow.Author.Needs.{needs}
 use mathlib.Core.Path.{_≡_, ap}
-use Rattle.plate.specs.Layout.{wide, high}
-use Rattle.plate.specs.code.Bounds.{Frame}
-use Rattle.plate.specs.code.Laying.{cornerOf}
+use Rattle.plate_model.specs.Layout.{wide, high}
+use Rattle.plate.specs.Frame.{Frame}
+use Rattle.plate.specs.Laying.{cornerOf}
 use Rattle.plate.proofs.laying.Corners.{corner-in}
 use Rattle.plate.proofs.lay.corner_of.Statement.{statement}
 use Rattle.plate.proofs.lay.corner_of.Tie as tie

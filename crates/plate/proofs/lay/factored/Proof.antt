@@ -2,7 +2,7 @@
 use mathlib.Core.Path.{_≡_, _∙_}
 use native.Mathlib.Omega.{arith}
 use borrow.Author.Needs.{needs}
-use Rattle.kernels.specs.Mark.{minus, sign, choose}
+use Rattle.kernels_model.specs.Mark.{minus, sign, choose}
 use Rattle.plate.proofs.laying.Worths.{times-one, times-times}
 use Rattle.plate.proofs.lay.factored.Statement.{statement}
 use Rattle.plate.proofs.lay.factored.Tie as tie

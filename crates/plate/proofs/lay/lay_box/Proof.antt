@@ -1,8 +1,8 @@
 -- `lay::lay_box` meets its contract: a box's grid is two columns of two marks.
 use native.Mathlib.Omega.{arith}
 use borrow.Author.Needs.{needs}
-use Rattle.kernels.specs.Mark.{minus, boxGrid, marksTo}
-use Rattle.plate.specs.code.Laying.{AllIn}
+use Rattle.kernels_model.specs.Mark.{minus, boxGrid, marksTo}
+use Rattle.plate.specs.Laying.{AllIn}
 use Rattle.plate.proofs.laying.Worths.{times-one, drawn-append, box-columns}
 use Rattle.plate.proofs.lay.lay_box.Statement.{statement}
 use Rattle.plate.proofs.lay.lay_box.Tie as tie

@@ -6,10 +6,10 @@ use native.Mathlib.Numerals.{add-one}
 use denote.Ref.{now}
 use lib.ListN.{length}
 use borrow.Author.Needs.{needs}
-use Rattle.kernels.specs.Fixed.{margin}
-use Rattle.kernels.specs.Mark.{marksTo}
-use Rattle.kernels.proofs.numbers.Products.{product-le}
-use Rattle.plate.specs.code.Laying.{Worth, times, layDrawn, gridColumn}
+use Rattle.kernels_model.specs.Fixed.{margin}
+use Rattle.kernels_model.specs.Mark.{marksTo}
+use Rattle.kernels_model.proofs.numbers.Products.{product-le}
+use Rattle.plate.specs.Laying.{Worth, times, layDrawn, gridColumn}
 use Rattle.plate.proofs.laying.Worths.{column-more, mark-in}
 use Rattle.plate.proofs.lay.lay_column.Statement.{statement}
 use Rattle.plate.proofs.lay.lay_column.Tie as tie

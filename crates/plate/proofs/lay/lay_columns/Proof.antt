@@ -7,11 +7,11 @@ use native.Mathlib.Numerals.{add-one}
 use denote.Ref.{now}
 use lib.ListN.{length}
 use borrow.Author.Needs.{needs}
-use Rattle.kernels.specs.Fixed.{margin, planesEach}
-use Rattle.kernels.specs.Mark.{marksTo, boxGrid}
-use Rattle.kernels.specs.code.Drawing.{drawnMarks}
-use Rattle.kernels.proofs.numbers.Products.{product-le}
-use Rattle.plate.specs.code.Laying.{AllIn, layDrawn, factor, columnMarks}
+use Rattle.kernels_model.specs.Fixed.{margin, planesEach}
+use Rattle.kernels_model.specs.Mark.{marksTo, boxGrid}
+use Rattle.kernels_model.specs.Drawing.{drawnMarks}
+use Rattle.kernels_model.proofs.numbers.Products.{product-le}
+use Rattle.plate.specs.Laying.{AllIn, layDrawn, factor, columnMarks}
 use Rattle.plate.proofs.laying.Worths.{gridTo, columns-in, grid-more}
 use Rattle.plate.proofs.lay.lay_columns.Statement.{statement}
 use Rattle.plate.proofs.lay.lay_columns.Tie as tie

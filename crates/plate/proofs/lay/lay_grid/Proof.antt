@@ -1,8 +1,8 @@
 -- A count that is not 1 is 2 or 3.
 use native.Mathlib.Omega.{arith}
 use borrow.Author.Needs.{needs}
-use Rattle.kernels.specs.code.Drawing.{drawnMarks}
-use Rattle.plate.specs.code.Laying.{FewBoxes}
+use Rattle.kernels_model.specs.Drawing.{drawnMarks}
+use Rattle.plate.specs.Laying.{FewBoxes}
 use Rattle.plate.proofs.lay.lay_grid.Statement.{statement}
 use Rattle.plate.proofs.lay.lay_grid.Tie as tie
 

@@ -1,7 +1,7 @@
 -- It lays the level piece, or there is none.
 use borrow.Author.Needs.{needs}
 use borrow.Author.Tests.{not-true, not-false}
-use Rattle.plate.specs.code.Laying.{AllIn, layDrawn, levelMarks}
+use Rattle.plate.specs.Laying.{AllIn, layDrawn, levelMarks}
 use Rattle.plate.proofs.lay.lay_level.Statement.{statement}
 use Rattle.plate.proofs.lay.lay_level.Tie as tie
 

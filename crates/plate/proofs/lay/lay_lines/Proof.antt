@@ -1,9 +1,9 @@
 -- Each line is laid piece by piece: the top line is worth plus and then minus, the bottom line minus and then plus.
 use native.Mathlib.Omega.{arith}
 use borrow.Author.Needs.{needs}
-use Rattle.kernels.specs.Mark.{minus}
-use Rattle.kernels.specs.code.Drawing.{drawnMarks, linePieces}
-use Rattle.plate.specs.code.Laying.{levelMarks}
+use Rattle.kernels_model.specs.Mark.{minus}
+use Rattle.kernels_model.specs.Drawing.{drawnMarks, linePieces}
+use Rattle.plate.specs.Laying.{levelMarks}
 use Rattle.plate.proofs.laying.Worths.{times-one, both-laid, LineIn, line-in, lines-in}
 use Rattle.plate.proofs.lay.lay_lines.Statement.{statement}
 use Rattle.plate.proofs.lay.lay_lines.Tie as tie

@@ -2,8 +2,8 @@
 use native.Mathlib.Omega.{arith}
 use lib.ListN.{length-set}
 use borrow.Author.Needs.{needs}
-use Rattle.plate.specs.Marks.{layOne}
-use Rattle.plate.specs.code.Laying.{layWorth}
+use Rattle.plate_model.specs.Marks.{layOne}
+use Rattle.plate.specs.Laying.{layWorth}
 use Rattle.plate.proofs.lay.lay_mark.Statement.{statement}
 use Rattle.plate.proofs.lay.lay_mark.Tie as tie
 

@@ -1,7 +1,7 @@
 -- `lay::lay_piece` meets its contract: it lays the start and then the end.
 use native.Mathlib.Omega.{arith}
 use borrow.Author.Needs.{needs}
-use Rattle.plate.specs.code.Laying.{AllIn, layDrawn}
+use Rattle.plate.specs.Laying.{AllIn, layDrawn}
 use Rattle.plate.proofs.lay.lay_piece.Statement.{statement}
 use Rattle.plate.proofs.lay.lay_piece.Tie as tie
 

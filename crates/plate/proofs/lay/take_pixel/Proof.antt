@@ -2,7 +2,7 @@
 use mathlib.Core.Path.{_∙_}
 use native.Mathlib.Omega.{arith}
 use borrow.Author.Needs.{needs}
-use Rattle.kernels.specs.declared.shape.Shape.the-variants.{Box}
+use Rattle.kernels_model.specs.declared.shape.Shape.the-variants.{Box}
 use Rattle.plate.proofs.laying.Corners.{kernel-roomy, pixel-reaches, pixel-taken}
 use Rattle.plate.proofs.lay.take_pixel.Statement.{statement}
 use Rattle.plate.proofs.lay.take_pixel.Tie as tie

@@ -2,7 +2,7 @@
 use Prim.Native.Nat.{_*_, _≤_}
 use native.Mathlib.Omega.{arith}
 use borrow.Author.Needs.{needs}
-use Rattle.kernels.proofs.numbers.Products.{product-le}
+use Rattle.kernels_model.proofs.numbers.Products.{product-le}
 use Rattle.plate.proofs.lay.worth_of.Statement.{statement}
 use Rattle.plate.proofs.lay.worth_of.Tie as tie
 

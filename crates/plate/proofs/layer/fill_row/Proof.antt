@@ -6,9 +6,9 @@ use native.Mathlib.Omega.{arith}
 use native.Mathlib.Nat.{add-zero}
 use lib.ListN.{length}
 use borrow.Author.Needs.{needs}
-use Rattle.plate.specs.Lent.{inputs}
-use Rattle.plate.specs.code.Filling.{layerSize, FilledTo, FilledRow}
-use Rattle.plate.proofs.numbers.Extents.{place-within, row-in}
+use Rattle.plate_model.specs.Lent.{inputs}
+use Rattle.plate.specs.Filling.{layerSize, FilledTo, FilledRow}
+use Rattle.plate_model.proofs.numbers.Extents.{place-within, row-in}
 use Rattle.plate.proofs.filling.Filling.{filled-more}
 use Rattle.plate.proofs.layer.fill_row.Statement.{statement}
 use Rattle.plate.proofs.layer.fill_row.Tie as tie

@@ -5,8 +5,8 @@ use native.Mathlib.Omega.{arith}
 use native.Mathlib.Nat.{mul-comm}
 use lib.ListN.{length}
 use borrow.Author.Needs.{needs}
-use Rattle.plate.specs.Lent.{inputs}
-use Rattle.plate.specs.code.Filling.{layerSize, FilledTo, FilledRow}
+use Rattle.plate_model.specs.Lent.{inputs}
+use Rattle.plate.specs.Filling.{layerSize, FilledTo, FilledRow}
 use Rattle.plate.proofs.filling.Filling.{filled-none}
 use Rattle.plate.proofs.layer.fill_rows.Statement.{statement}
 use Rattle.plate.proofs.layer.fill_rows.Tie as tie

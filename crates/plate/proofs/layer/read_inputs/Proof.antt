@@ -3,13 +3,15 @@ use mathlib.Core.Path.{_≡_}
 use mathlib.Core.List.{List}
 use Prim.Native.Nat.{ℕ}
 use borrow.Author.Needs.{needs}
-use Rattle.plate.specs.Refusal.{Accepted, Depth, refuseIf, anyAbove, shapeCheck, lensCheck, depthsCheck, insideCheck, layerCheck}
-use Rattle.plate.specs.Lent.{inputs}
+use Rattle.plate_model.specs.declared.state.Outcome.the-variants.{Accepted}
+use Rattle.plate_model.specs.declared.state.Refusal.the-variants.{Depth}
+use Rattle.plate_model.specs.Refusal.{refuseIf, anyAbove, shapeCheck, lensCheck, depthsCheck, insideCheck, layerCheck}
+use Rattle.plate_model.specs.Lent.{inputs}
 use Rattle.plate.proofs.checks.Scans.{above-found}
 use Rattle.plate.proofs.layer.read_inputs.Statement.{statement}
 use Rattle.plate.proofs.layer.read_inputs.Tie as tie
-use Rattle.kernels.specs.Fixed.{depthTop}
-use Rattle.kernels.proofs.taps.ShapeNumbers.{shape-read}
+use Rattle.kernels_model.specs.Fixed.{depthTop}
+use Rattle.kernels_model.proofs.taps.ShapeNumbers.{shape-read}
 
 -- past the values' check and the shape's
 past : (c : tie.After-known-told) (opacities : List ℕ)

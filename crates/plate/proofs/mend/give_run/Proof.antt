@@ -1,7 +1,7 @@
 -- `mend::give_run` meets its contract: the one run is light's, and the other lies as many cells on as there are places.
 use Prim.Native.Nat.{_+_, _-_}
 use borrow.Author.Needs.{needs}
-use Rattle.plate.specs.code.Mending.{RunAdded}
+use Rattle.plate.specs.Mending.{RunAdded}
 use Rattle.plate.proofs.mending.Runs.{run-given}
 use Rattle.plate.proofs.mend.give_run.Statement.{statement}
 use Rattle.plate.proofs.mend.give_run.Tie as tie

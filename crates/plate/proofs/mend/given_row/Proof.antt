@@ -1,10 +1,10 @@
 -- `mend::given_row` meets its contract: the row that is handed out, with the kernel's own share, is that of the kernel.
 use mathlib.Core.Path.{_≡_, refl, sym, ap, subst, _∙_}
 use borrow.Author.Needs.{needs}
-use Rattle.kernels.specs.declared.share.Share.{Share}
-use Rattle.kernels.specs.declared.band.Band.{Band}
-use Rattle.kernels.specs.code.Bands.{bandFor, BandOf}
-use Rattle.kernels.proofs.taps.Bands.{band-is}
+use Rattle.kernels_model.specs.declared.share.Share.{Share}
+use Rattle.kernels_model.specs.declared.band.Band.{Band}
+use Rattle.kernels_model.specs.Band.{bandFor, BandOf}
+use Rattle.kernels_model.proofs.taps.Bands.{band-is}
 use Rattle.plate.proofs.mend.given_row.Statement.{statement}
 use Rattle.plate.proofs.mend.given_row.Tie as tie
 

@@ -2,11 +2,11 @@
 use Prim.Native.Nat.{_-_, _≤_, _<_}
 use native.Mathlib.Omega.{arith}
 use borrow.Author.Needs.{needs}
-use Rattle.kernels.specs.Shape.{reachOf}
-use Rattle.plate.specs.Fixed.{reachTop}
-use Rattle.plate.specs.Lent.{canvas}
-use Rattle.plate.specs.code.Mending.{MendedWhere}
-use Rattle.plate.proofs.laying.Cells.{reach-under}
+use Rattle.kernels_model.specs.Shape.{reachOf}
+use Rattle.plate_model.specs.Fixed.{reachTop}
+use Rattle.plate_model.specs.Lent.{canvas}
+use Rattle.plate.specs.Mending.{MendedWhere}
+use Rattle.kernels_model.proofs.taps.ShapeNumbers.{reach-under}
 use Rattle.plate.proofs.mending.Mended.{mended-none, all-mended}
 use Rattle.plate.proofs.mending.Rows.{InRows, still-ready, rows-next, rows-mended}
 use Rattle.plate.proofs.mend.mend.Statement.{statement}

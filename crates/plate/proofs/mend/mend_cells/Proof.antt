@@ -2,10 +2,10 @@
 use Prim.Native.Nat.{_+_, _*_, _-_, _≤_, _<_}
 use native.Mathlib.Omega.{arith}
 use borrow.Author.Needs.{needs}
-use Rattle.plate.specs.Lent.{canvas}
-use Rattle.plate.specs.Fixed.{placesTop}
-use Rattle.plate.specs.code.Mending.{MendedWhere}
-use Rattle.plate.proofs.numbers.Extents.{place-within}
+use Rattle.plate_model.specs.Lent.{canvas}
+use Rattle.plate_model.specs.Fixed.{placesTop}
+use Rattle.plate.specs.Mending.{MendedWhere}
+use Rattle.plate_model.proofs.numbers.Extents.{place-within}
 use Rattle.plate.proofs.mending.Mended.{InStretch, mended-none, stretch-next}
 use Rattle.plate.proofs.mending.Rows.{still-ready, cell-ready, column-mended, row-mended, span-low}
 use Rattle.plate.proofs.mend.mend_cells.Statement.{statement}

@@ -1,8 +1,8 @@
 -- `mend::mend_row` meets its contract: both ways mend the cells of the row that are in reach.
 use mathlib.Core.Path.{sym, _∙_}
 use borrow.Author.Needs.{needs}
-use Rattle.plate.specs.Lent.{canvas}
-use Rattle.plate.specs.code.Mending.{RowToMend}
+use Rattle.plate_model.specs.Lent.{canvas}
+use Rattle.plate.specs.Mending.{RowToMend}
 use Rattle.plate.proofs.mend.mend_row.Statement.{statement}
 use Rattle.plate.proofs.mend.mend_row.Tie as tie
 

@@ -3,13 +3,13 @@ use mathlib.Core.Path.{ap, subst, _∙_}
 use Prim.Native.Nat.{_+_, _*_, _-_, _≤_}
 use native.Mathlib.Omega.{arith}
 use borrow.Author.Needs.{needs}
-use Rattle.kernels.specs.Mark.{minus}
-use Rattle.plate.specs.Fixed.{placesTop}
-use Rattle.plate.specs.Lent.{canvas}
-use Rattle.plate.specs.code.Laying.{Worth, times}
-use Rattle.plate.specs.code.Showing.{RowShown}
-use Rattle.plate.specs.code.Mending.{levelWorth, RunGiven}
-use Rattle.plate.proofs.numbers.Extents.{row-in}
+use Rattle.kernels_model.specs.Mark.{minus}
+use Rattle.plate_model.specs.Fixed.{placesTop}
+use Rattle.plate_model.specs.Lent.{canvas}
+use Rattle.plate.specs.Laying.{Worth, times}
+use Rattle.plate.specs.Showing.{RowShown}
+use Rattle.plate.specs.Mending.{levelWorth, RunGiven}
+use Rattle.plate_model.proofs.numbers.Extents.{row-in}
 use Rattle.plate.proofs.mending.Gives.{gives-few}
 use Rattle.plate.proofs.mending.Rows.{span-low}
 use Rattle.plate.proofs.mending.Runs.{run-in, runs-mended}

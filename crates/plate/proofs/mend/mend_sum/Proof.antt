@@ -1,7 +1,7 @@
 -- `mend::mend_sum` meets its contract: what is left of the kept sum and what the old pixel gave add up to the kept one, wrapped.
 use native.Mathlib.Omega.{arith}
 use borrow.Author.Needs.{needs}
-use Rattle.kernels.specs.Mark.{minus}
+use Rattle.kernels_model.specs.Mark.{minus}
 use Rattle.plate.proofs.mend.mend_sum.Statement.{statement}
 use Rattle.plate.proofs.mend.mend_sum.Tie as tie
 

@@ -1,6 +1,6 @@
 -- A refused open hands on what the check found, and an accepted one clears each list.
 use borrow.Author.Needs.{needs}
-use Rattle.plate.specs.Calls.{openCall, openBy}
+use Rattle.plate_model.specs.Calls.{openCall, openBy}
 use Rattle.plate.proofs.open.open.Statement.{statement}
 use Rattle.plate.proofs.open.open.Tie as tie
 

@@ -5,8 +5,8 @@ use Prim.Native.Nat.{ℕ, _+_, _*_, _%_, _^_, _<_}
 use native.Mathlib.Omega.{arith}
 use lib.ListN.{getD}
 use borrow.Author.Needs.{needs}
-use Rattle.kernels.specs.Fixed.{level, secondBox, thirdBox}
-use Rattle.plate.specs.code.Passes.{Across, Added, BoxesMet, markAt}
+use Rattle.kernels_model.specs.Fixed.{level, secondBox, thirdBox}
+use Rattle.plate.specs.Passes.{Across, Added, BoxesMet, markAt}
 use Rattle.plate.proofs.showing.Writes.{later-cell}
 use Rattle.plate.proofs.pass.add_boxes.Statement.{statement}
 use Rattle.plate.proofs.pass.add_boxes.Tie as tie

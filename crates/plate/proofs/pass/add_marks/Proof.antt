@@ -5,7 +5,7 @@ use Prim.Native.Nat.{ℕ, _+_, _%_, _^_}
 use native.Mathlib.Omega.{arith}
 use lib.ListN.{getD, set, length-set}
 use borrow.Author.Needs.{needs}
-use Rattle.plate.specs.code.Passes.{MarksOn}
+use Rattle.plate.specs.Passes.{MarksOn}
 use Rattle.plate.proofs.pass.add_marks.Statement.{statement}
 use Rattle.plate.proofs.pass.add_marks.Tie as tie
 

@@ -3,8 +3,8 @@ use Prim.Native.Nat.{_+_, _*_, _-_, _^_, _<_, _≤_}
 use native.Mathlib.Omega.{arith}
 use lib.ListN.{length}
 use borrow.Author.Needs.{needs}
-use Rattle.kernels.specs.Fixed.{thirdBox}
-use Rattle.plate.specs.code.Passes.{InOrder, rowStart, risingCell}
+use Rattle.kernels_model.specs.Fixed.{thirdBox}
+use Rattle.plate.specs.Passes.{InOrder, rowStart, risingCell}
 use Rattle.plate.proofs.showing.Writes.{Writing, writing-start, writing-all}
 use Rattle.plate.proofs.showing.RowSums.{laying-next}
 use Rattle.plate.proofs.pass.lay_row.Statement.{statement}

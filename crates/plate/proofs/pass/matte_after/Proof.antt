@@ -1,7 +1,7 @@
 -- `pass::matte_after` meets its contract: light ends with its sums down, and with its last plane.
 use Prim.Native.Nat.{_+_, _*_}
 use native.Mathlib.Omega.{arith}
-use Rattle.plate.specs.code.Passes.{startsAt}
+use Rattle.plate.specs.Passes.{startsAt}
 use borrow.Author.Needs.{needs}
 use Rattle.plate.proofs.pass.matte_after.Statement.{statement}
 use Rattle.plate.proofs.pass.matte_after.Tie as tie

@@ -7,7 +7,7 @@ use native.Mathlib.Omega.{arith}
 use lib.ListN.{length}
 use borrow.Author.Needs.{needs}
 use borrow.Rule.Slice.PartMut.{putMid}
-use Rattle.plate.specs.code.Passes.{Starts, startsAt, sumsEnd, OnlySums}
+use Rattle.plate.specs.Passes.{Starts, startsAt, sumsEnd, OnlySums}
 use Rattle.plate.proofs.numbers.Parts.{cleared-same, cleared-before, cleared-in, cleared-after}
 use Rattle.plate.proofs.showing.Starts.{in-order}
 use Rattle.plate.proofs.showing.RisingStart.{picture-on, LayReady, LaidFrom, laid-start, laid-next, laid-all, laid-from}

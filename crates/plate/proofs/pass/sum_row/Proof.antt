@@ -3,8 +3,8 @@ use Prim.Native.Nat.{ℕ, _+_, _*_, _-_, _^_, _<_, _≤_}
 use native.Mathlib.Omega.{arith}
 use lib.ListN.{length}
 use borrow.Author.Needs.{needs}
-use Rattle.kernels.specs.Fixed.{thirdBox}
-use Rattle.plate.specs.code.Passes.{Starts, InOrder}
+use Rattle.kernels_model.specs.Fixed.{thirdBox}
+use Rattle.plate.specs.Passes.{Starts, InOrder}
 use Rattle.plate.proofs.showing.Writes.{writing-all}
 use Rattle.plate.proofs.showing.RowSums.{SummingAt, summing-start, summing-next}
 use Rattle.plate.proofs.pass.sum_row.Statement.{statement}

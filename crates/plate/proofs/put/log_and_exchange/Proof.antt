@@ -1,7 +1,7 @@
 -- The logged word and what `exchange` leaves are what `putBy` says.
 use native.Mathlib.Omega.{arith}
 use borrow.Author.Needs.{needs}
-use Rattle.plate.specs.Calls.{changed, putBy}
+use Rattle.plate_model.specs.Calls.{changed, putBy}
 use Rattle.plate.proofs.put.log_and_exchange.Statement.{statement}
 use Rattle.plate.proofs.put.log_and_exchange.Tie as tie
 

@@ -3,10 +3,12 @@ use mathlib.Core.Path.{_≡_, sym, _∙_}
 use native.Mathlib.Omega.{arith}
 use denote.Ref.{now}
 use borrow.Author.Needs.{needs}
-use Rattle.plate.specs.Lent.{Lent, lent, sizedAs, Ask, ask}
-use Rattle.plate.specs.Change.{ToChange, putRead}
-use Rattle.plate.specs.Calls.{putBy, putCall}
-use Rattle.plate.proofs.changing.Changes.{put-ready}
+use Rattle.plate_model.specs.declared.lent.Ask.{Ask}
+use Rattle.plate_model.specs.Lent.{Lent, lent, sizedAs, ask}
+use Rattle.plate_model.specs.declared.change.ChangeRead.the-variants.{ToChange}
+use Rattle.plate_model.specs.Change.{putRead}
+use Rattle.plate_model.specs.Calls.{putBy, putCall}
+use Rattle.plate_model.proofs.changing.Changes.{put-ready}
 use Rattle.plate.proofs.put.put.Statement.{statement}
 use Rattle.plate.proofs.put.put.Tie as tie
 

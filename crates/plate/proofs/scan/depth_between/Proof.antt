@@ -6,10 +6,10 @@ use native.Mathlib.Omega.{arith}
 use lib.ListN.{length}
 use borrow.Author.Count.{below-more}
 use borrow.Author.Needs.{needs}
-use Rattle.plate.specs.Refusal.{isBetween}
-use Rattle.plate.proofs.numbers.Extents.{row-in}
+use Rattle.plate_model.specs.Refusal.{isBetween}
+use Rattle.plate_model.proofs.numbers.Extents.{row-in}
 use Rattle.plate.proofs.checks.Scans.{NoneTo, SmallTo, small-all, none-found, one-found}
-use Rattle.plate.proofs.checks.Conditions.{true-not}
+use Rattle.plate_model.proofs.checks.Conditions.{true-not}
 use Rattle.plate.proofs.scan.depth_between.Statement.{statement}
 use Rattle.plate.proofs.scan.depth_between.Tie as tie
 

@@ -1,7 +1,7 @@
 -- The tests are the definition's.
 use native.Mathlib.Omega.{arith}
-use Rattle.plate.specs.Refusal.{isBetween}
-use Rattle.plate.proofs.checks.Conditions.{tests}
+use Rattle.plate_model.specs.Refusal.{isBetween}
+use Rattle.plate_model.proofs.checks.Conditions.{tests}
 use Rattle.plate.proofs.scan.lies_between.Statement.{statement}
 use Rattle.plate.proofs.scan.lies_between.Tie as tie
 

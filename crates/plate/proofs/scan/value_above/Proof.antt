@@ -8,11 +8,11 @@ use lib.ListN.{length}
 use borrow.Author.Count.{below-more}
 use borrow.Author.Tests.{lt-ltb, le-ltb}
 use borrow.Author.Needs.{needs}
-use Rattle.plate.proofs.numbers.Extents.{row-in}
+use Rattle.plate_model.proofs.numbers.Extents.{row-in}
 use Rattle.plate.proofs.checks.Scans.{NoneTo, none-found, one-found}
 use Rattle.plate.proofs.scan.value_above.Statement.{statement}
 use Rattle.plate.proofs.scan.value_above.Tie as tie
-use Rattle.kernels.specs.Fixed.{valueTop}
+use Rattle.kernels_model.specs.Fixed.{valueTop}
 
 abbrev Inv-loop : tie.InvT-loop
 Inv-loop values size found₀ y start x₀ y-end x-end found x =

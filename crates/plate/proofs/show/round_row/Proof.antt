@@ -3,8 +3,8 @@ use Prim.Native.Nat.{_+_, _-_, _≤_}
 use native.Mathlib.Omega.{arith}
 use lib.ListN.{getD}
 use borrow.Author.Needs.{needs}
-use Rattle.kernels.specs.Rounding.{shownValue, shownMatte}
-use Rattle.plate.specs.code.Showing.{RowIn}
+use Rattle.kernels_model.specs.Rounding.{shownValue, shownMatte}
+use Rattle.plate.specs.Showing.{RowIn}
 use Rattle.plate.proofs.showing.Writes.{Writing, writing-start, writing-one, writing-all}
 use Rattle.plate.proofs.show.round_row.Statement.{statement}
 use Rattle.plate.proofs.show.round_row.Tie as tie

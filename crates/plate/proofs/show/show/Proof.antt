@@ -3,8 +3,9 @@ use mathlib.Core.Path.{_≡_, sym, _∙_}
 use denote.Ref.{now}
 use lib.ListN.{length}
 use borrow.Author.Needs.{needs}
-use Rattle.plate.specs.Refusal.{Accepted, showCheck}
-use Rattle.plate.specs.Calls.{showBy, showCall}
+use Rattle.plate_model.specs.declared.state.Outcome.the-variants.{Accepted}
+use Rattle.plate_model.specs.Refusal.{showCheck}
+use Rattle.plate_model.specs.Calls.{showBy, showCall}
 use Rattle.plate.proofs.showing.Image.{show-ready}
 use Rattle.plate.proofs.show.show.Statement.{statement}
 use Rattle.plate.proofs.show.show.Tie as tie

@@ -4,9 +4,9 @@ use Prim.Native.Nat.{ℕ, _+_, _-_, _≤_}
 use native.Mathlib.Omega.{arith}
 use lib.ListN.{length}
 use borrow.Author.Needs.{needs}
-use Rattle.plate.specs.Calls.{zeros}
-use Rattle.plate.specs.code.Passes.{Picture}
-use Rattle.plate.specs.code.Showing.{BothIn}
+use Rattle.plate_model.specs.Calls.{zeros}
+use Rattle.plate.specs.Passes.{Picture}
+use Rattle.plate.specs.Showing.{BothIn}
 use Rattle.plate.proofs.showing.BothPictures.{both-on}
 use Rattle.plate.proofs.showing.Image.{ready-both, all-shown}
 use Rattle.plate.proofs.show.show_all.Statement.{statement}

@@ -4,8 +4,8 @@ use mathlib.Core.Path.{_≡_, refl, _∙_}
 use Prim.Native.Nat.{_+_, _*_, _-_, _^_, _<_, _≤_}
 use native.Mathlib.Omega.{arith}
 use borrow.Author.Needs.{needs}
-use Rattle.plate.specs.code.Passes.{sumsEnd}
-use Rattle.plate.proofs.numbers.Extents.{row-in}
+use Rattle.plate.specs.Passes.{sumsEnd}
+use Rattle.plate_model.proofs.numbers.Extents.{row-in}
 use Rattle.plate.proofs.showing.BothPictures.{both-on, matte-sums}
 use Rattle.plate.proofs.showing.Image.{row-finished, ShowingAt, showing-start, shown-next}
 use Rattle.plate.proofs.show.show_rows.Statement.{statement}

@@ -3,7 +3,7 @@ use mathlib.Core.Path.{_≡_, refl, _∙_}
 use Prim.Native.Nat.{_-_, _≤_}
 use native.Mathlib.Omega.{arith}
 use borrow.Author.Needs.{needs}
-use Rattle.plate.specs.code.Showing.{BothSummed}
+use Rattle.plate.specs.Showing.{BothSummed}
 use Rattle.plate.proofs.showing.BothPictures.{both-on}
 use Rattle.plate.proofs.show.sum_above.Statement.{statement}
 use Rattle.plate.proofs.show.sum_above.Tie as tie

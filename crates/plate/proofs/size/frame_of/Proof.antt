@@ -1,7 +1,7 @@
 -- A lawful plate has few cells, so that no product wraps.
 use native.Mathlib.Omega.{arith}
 use borrow.Author.Needs.{needs}
-use Rattle.plate.proofs.numbers.Extents.{padded-small}
+use Rattle.plate_model.proofs.numbers.Extents.{padded-small}
 use Rattle.plate.proofs.size.frame_of.Statement.{statement}
 use Rattle.plate.proofs.size.frame_of.Tie as tie
 

@@ -4,7 +4,7 @@ use Prim.Native.Nat.{_+_, _-_, _%_, _^_, _≤_, _<_}
 use native.Mathlib.Omega.{arith}
 use native.Mathlib.Numerals.{add-one}
 use lib.ListN.{getD, length}
-use Rattle.kernels.specs.Sum.{sum as sumOf}
+use Rattle.kernels_model.specs.Sum.{sum as sumOf}
 use borrow.Author.Needs.{needs}
 use Rattle.plate.proofs.total.add_cells.Statement.{statement}
 use Rattle.plate.proofs.total.add_cells.Tie as tie

@@ -5,8 +5,8 @@ use Prim.Native.Nat.{_-_, _≤_}
 use native.Mathlib.Omega.{arith}
 use lib.ListN.{length}
 use borrow.Author.Needs.{needs}
-use Rattle.plate.specs.code.Passes.{Picture, Starts, downFrom, startsAt, SummedTo}
-use Rattle.plate.specs.code.Totalling.{wholePicture, AddedUp}
+use Rattle.plate.specs.Passes.{Picture, Starts, downFrom, startsAt, SummedTo}
+use Rattle.plate.specs.Totalling.{wholePicture, AddedUp}
 use Rattle.plate.proofs.showing.RisingStart.{picture-on}
 use Rattle.plate.proofs.showing.Totals.{added-start, added-next}
 use Rattle.plate.proofs.total.add_up.Statement.{statement}

@@ -3,8 +3,9 @@ use mathlib.Core.Path.{_≡_, sym, _∙_}
 use denote.Ref.{now}
 use lib.ListN.{length}
 use borrow.Author.Needs.{needs}
-use Rattle.plate.specs.Refusal.{Accepted, totalCheck}
-use Rattle.plate.specs.Total.{totalBy, totalCall}
+use Rattle.plate_model.specs.declared.state.Outcome.the-variants.{Accepted}
+use Rattle.plate_model.specs.Refusal.{totalCheck}
+use Rattle.plate_model.specs.Total.{totalBy, totalCall}
 use Rattle.plate.proofs.showing.Totals.{total-ready}
 use Rattle.plate.proofs.total.total.Statement.{statement}
 use Rattle.plate.proofs.total.total.Tie as tie

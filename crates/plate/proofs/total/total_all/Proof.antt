@@ -3,10 +3,10 @@ use mathlib.Core.Path.{_≡_, ap, _∙_}
 use Prim.Native.Nat.{_*_}
 use native.Mathlib.Omega.{arith}
 use borrow.Author.Needs.{needs}
-use Rattle.kernels.specs.Fixed.{planesEach}
-use Rattle.plate.specs.Layout.{padded}
-use Rattle.plate.specs.code.Bounds.{Frame}
-use Rattle.plate.proofs.numbers.Extents.{padded-small}
+use Rattle.kernels_model.specs.Fixed.{planesEach}
+use Rattle.plate_model.specs.Layout.{padded}
+use Rattle.plate.specs.Frame.{Frame}
+use Rattle.plate_model.proofs.numbers.Extents.{padded-small}
 use Rattle.plate.proofs.showing.RisingStart.{picture-on}
 use Rattle.plate.proofs.showing.Totals.{ready-whole, held-is, all-totalled}
 use Rattle.plate.proofs.total.total_all.Statement.{statement}

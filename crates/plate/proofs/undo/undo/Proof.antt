@@ -2,10 +2,11 @@
 use mathlib.Core.Path.{_≡_, sym, _∙_}
 use denote.Ref.{now}
 use borrow.Author.Needs.{needs}
-use Rattle.plate.specs.Lent.{Lent, lent, sizedAs}
-use Rattle.plate.specs.Change.{ToChange, undoRead}
-use Rattle.plate.specs.Calls.{undoBy, undoCall}
-use Rattle.plate.proofs.changing.Changes.{undo-ready}
+use Rattle.plate_model.specs.Lent.{Lent, lent, sizedAs}
+use Rattle.plate_model.specs.declared.change.ChangeRead.the-variants.{ToChange}
+use Rattle.plate_model.specs.Change.{undoRead}
+use Rattle.plate_model.specs.Calls.{undoBy, undoCall}
+use Rattle.plate_model.proofs.changing.Changes.{undo-ready}
 use Rattle.plate.proofs.undo.undo.Statement.{statement}
 use Rattle.plate.proofs.undo.undo.Tie as tie
 

@@ -1,7 +1,7 @@
 -- The zeroed entry and what `exchange` leaves are what `undoBy` says.
 use native.Mathlib.Omega.{arith}
 use borrow.Author.Needs.{needs}
-use Rattle.plate.specs.Calls.{changed, undoBy}
+use Rattle.plate_model.specs.Calls.{changed, undoBy}
 use Rattle.plate.proofs.undo.unlog_and_exchange.Statement.{statement}
 use Rattle.plate.proofs.undo.unlog_and_exchange.Tie as tie
 

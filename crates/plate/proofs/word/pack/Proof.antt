@@ -2,8 +2,8 @@
 use Prim.Native.Nat.{_+_, _*_, _≤_}
 use native.Mathlib.Omega.{arith}
 use borrow.Author.Needs.{needs}
-use Rattle.kernels.specs.Shape.{numberOf}
-use Rattle.kernels.proofs.taps.ShapeNumbers.{number-le}
+use Rattle.kernels_model.specs.Shape.{numberOf}
+use Rattle.kernels_model.proofs.taps.ShapeNumbers.{number-le}
 use Rattle.plate.proofs.words.Fields.{or-field}
 use Rattle.plate.proofs.word.pack.Statement.{statement}
 use Rattle.plate.proofs.word.pack.Tie as tie

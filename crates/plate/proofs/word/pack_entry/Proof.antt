@@ -3,7 +3,7 @@ use native.Mathlib.Omega.{arith}
 use Rattle.plate.proofs.words.Fields.{or-field}
 use Rattle.plate.proofs.word.pack_entry.Statement.{statement}
 use Rattle.plate.proofs.word.pack_entry.Tie as tie
-use Rattle.plate.specs.Fixed.{wordBits}
+use Rattle.plate_model.specs.Fixed.{wordBits}
 
 returns : tie.Need-returns
 returns c = or-field wordBits (c .args .word) (c .args .place) (omega arith) (omega arith)

@@ -6,13 +6,13 @@ use borrow.Author.Needs.{needs}
 use borrow.Author.Tests.{le-leb, lt-ltb, le-ltb}
 use lib.Bits.{and-mask}
 use mir.Facts.{fits-mask}
-use Rattle.kernels.specs.declared.shape.ShapeRead.the-variants.{Known, Unknown}
-use Rattle.kernels.proofs.taps.ShapeNumbers.{shape-read}
-use Rattle.plate.specs.Word.{readWord, pixelIn}
+use Rattle.kernels_model.specs.declared.shape.ShapeRead.the-variants.{Known, Unknown}
+use Rattle.kernels_model.proofs.taps.ShapeNumbers.{shape-read}
+use Rattle.plate_model.specs.Word.{readWord, pixelIn}
 use Rattle.plate.proofs.words.Fields.{low-word}
 use Rattle.plate.proofs.word.unpack.Statement.{statement}
 use Rattle.plate.proofs.word.unpack.Tie as tie
-use Rattle.plate.specs.Fixed.{wordBits}
+use Rattle.plate_model.specs.Fixed.{wordBits}
 
 abbrev start : tie.After-shape → tie.Start
 start c = c .before .before .before .before

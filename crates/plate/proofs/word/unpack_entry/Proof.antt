@@ -3,7 +3,8 @@ use mathlib.Core.Path.{sym, _∙_}
 use native.Mathlib.Omega.{arith}
 use borrow.Author.Needs.{needs}
 use borrow.Author.Tests.{le-leb}
-use Rattle.plate.specs.Word.{Broken, readEntry}
+use Rattle.plate_model.specs.declared.word.Unpacked.the-variants.{Broken}
+use Rattle.plate_model.specs.Word.{readEntry}
 use Rattle.plate.proofs.words.Fields.{placed-entry}
 use Rattle.plate.proofs.word.unpack_entry.Statement.{statement}
 use Rattle.plate.proofs.word.unpack_entry.Tie as tie

@@ -3,7 +3,7 @@ use native.Mathlib.Omega.{arith}
 use Prim.Native.Nat.{_-_}
 use lib.ListN.{length, take, drop, length-drop}
 use lib.Seq.{length-take-le}
-use Rattle.records.specs.Machine.{Buffers, buffers, feedOf}
+use Rattle.records_model.specs.Machine.{Buffers, buffers, feedOf}
 use Rattle.records.proofs.answering.Handing.{handed-after, handed-room}
 use borrow.Author.Needs.{needs}
 use Rattle.records.proofs.advance.step.Statement.{statement}

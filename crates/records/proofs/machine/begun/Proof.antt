@@ -2,7 +2,7 @@
 use Prim.Native.Nat.{_-_, _^_}
 use native.Mathlib.Omega.{arith}
 use borrow.Author.Tests.{lt-ltb, le-ltb}
-use Rattle.records.specs.Machine.{begunBy, begunOf}
+use Rattle.records_model.specs.Machine.{begunBy, begunOf}
 use borrow.Author.Needs.{needs}
 use Rattle.records.proofs.machine.begun.Statement.{statement}
 use Rattle.records.proofs.machine.begun.Tie as tie

@@ -1,8 +1,8 @@
 -- The place's test, and the store.
 use native.Mathlib.Omega.{arith}
 use borrow.Author.Tests.{lt-ltb, le-ltb}
-use Rattle.records.specs.Machine.{carriedOf}
-use Rattle.records.specs.Fixed.{longestBody}
+use Rattle.records_model.specs.Machine.{carriedOf}
+use Rattle.records_model.specs.Fixed.{longestBody}
 use borrow.Author.Needs.{needs}
 use Rattle.records.proofs.machine.carried.Statement.{statement}
 use Rattle.records.proofs.machine.carried.Tie as tie

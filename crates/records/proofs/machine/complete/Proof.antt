@@ -1,6 +1,6 @@
 -- The record that the machine has read, done where it stands.
-use Rattle.records.specs.Record.{recordOf}
-use Rattle.records.specs.Machine.{Buffers, buffers, recordOn, fedBy}
+use Rattle.records_model.specs.Record.{recordOf}
+use Rattle.records_model.specs.Machine.{Buffers, buffers, recordOn, fedBy}
 use Rattle.records.proofs.answering.Handing.{handed-done}
 use borrow.Author.Needs.{needs}
 use Rattle.records.proofs.machine.complete.Statement.{statement}

@@ -1,7 +1,7 @@
 -- A body that is cut short, or the count.
 use native.Mathlib.Omega.{arith}
 use borrow.Author.Tests.{lt-ltb, le-ltb}
-use Rattle.records.specs.Machine.{endText}
+use Rattle.records_model.specs.Machine.{endText}
 use borrow.Author.Needs.{needs}
 use Rattle.records.proofs.machine.end.Statement.{statement}
 use Rattle.records.proofs.machine.end.Tie as tie

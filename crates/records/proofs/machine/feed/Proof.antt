@@ -1,5 +1,5 @@
 -- An ended machine stays as it is, and any other takes the byte.
-use Rattle.records.specs.Machine.{Buffers, buffers, feedOf}
+use Rattle.records_model.specs.Machine.{Buffers, buffers, feedOf}
 use Rattle.records.proofs.answering.Handing.{handed-nothing}
 use borrow.Author.Needs.{needs}
 use Rattle.records.proofs.machine.feed.Statement.{statement}

@@ -1,7 +1,7 @@
 -- By what there is to do next.
 use mathlib.Core.Path.{refl}
-use Rattle.records.specs.Record.{Kind}
-use Rattle.records.specs.Machine.{Buffers, buffers, did, stoppedBy, fedBy}
+use Rattle.records_model.specs.declared.record.Stop.the-variants.{Kind}
+use Rattle.records_model.specs.Machine.{Buffers, buffers, did, stoppedBy, fedBy}
 use Rattle.records.proofs.answering.Leaving.{done-is}
 use Rattle.records.proofs.answering.Handing.{handed-nothing, handed-done}
 use borrow.Author.Needs.{needs}

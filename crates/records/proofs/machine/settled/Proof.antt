@@ -1,7 +1,7 @@
 -- The test picks what is next.
 use native.Mathlib.Omega.{arith}
 use borrow.Author.Tests.{lt-ltb, le-ltb}
-use Rattle.records.specs.Machine.{settledOf}
+use Rattle.records_model.specs.Machine.{settledOf}
 use Rattle.records.proofs.machine.settled.Statement.{statement}
 use Rattle.records.proofs.machine.settled.Tie as tie
 

@@ -1,7 +1,7 @@
 -- The test picks what the byte is.
 use native.Mathlib.Omega.{arith}
 use borrow.Author.Tests.{lt-ltb, le-ltb}
-use Rattle.records.specs.Machine.{takenOf}
+use Rattle.records_model.specs.Machine.{takenOf}
 use borrow.Author.Needs.{needs}
 use Rattle.records.proofs.machine.take.Statement.{statement}
 use Rattle.records.proofs.machine.take.Tie as tie

@@ -1,7 +1,7 @@
 -- Nothing for 0, and the line of a refusal for another number.
 use mathlib.Core.Path.{refl}
 use native.Mathlib.Omega.{arith}
-use Rattle.plate.specs.Refusal.{outcomeNumber}
+use Rattle.plate_model.specs.Refusal.{outcomeNumber}
 use Rattle.records.proofs.answering.Leaving.{says-nothing}
 use Rattle.records.proofs.answering.Answers.{no-answer, an-answer}
 use borrow.Author.Needs.{needs}

@@ -1,6 +1,6 @@
 -- The request served, and its answer told.
 use mathlib.Core.Path.{ap}
-use Rattle.plate.specs.Calls.{Left}
+use Rattle.plate_model.specs.Calls.{Left}
 use borrow.Author.Needs.{needs}
 use Rattle.records.proofs.perform.change_on.Statement.{statement}
 use Rattle.records.proofs.perform.change_on.Tie as tie

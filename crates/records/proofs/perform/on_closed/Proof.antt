@@ -1,10 +1,11 @@
 -- An open opens, and every other record stops with 15.
 use mathlib.Core.Path.{refl}
-use Rattle.records.specs.Record.{Order}
-use Rattle.records.specs.Machine.{Buffers, ToOpen, stoppedBy, openedBy, recordOn}
+use Rattle.records_model.specs.declared.record.Stop.the-variants.{Order}
+use Rattle.records_model.specs.declared.request.Request.the-variants.{ToOpen}
+use Rattle.records_model.specs.Machine.{Buffers, stoppedBy, openedBy, recordOn}
 use Rattle.records.proofs.answering.Leaving.{done-is, served-is}
-use Rattle.plate.specs.Lent.{lent, Views}
-use Rattle.records.specs.code.Done.{joint}
+use Rattle.plate_model.specs.Lent.{lent, Views}
+use Rattle.records.specs.Done.{joint}
 use borrow.Author.Needs.{needs}
 use Rattle.records.proofs.perform.on_closed.Statement.{statement}
 use Rattle.records.proofs.perform.on_closed.Tie as tie

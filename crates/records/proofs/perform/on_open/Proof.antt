@@ -1,7 +1,8 @@
 -- Each record is its request, or a show; a second open stops with 15.
 use mathlib.Core.Path.{refl}
-use Rattle.records.specs.Record.{Order}
-use Rattle.records.specs.Machine.{Buffers, buffers, ToUndo, stoppedBy, answeredBy, recordOn}
+use Rattle.records_model.specs.declared.record.Stop.the-variants.{Order}
+use Rattle.records_model.specs.declared.request.Request.the-variants.{ToUndo}
+use Rattle.records_model.specs.Machine.{Buffers, buffers, stoppedBy, answeredBy, recordOn}
 use Rattle.records.proofs.answering.Leaving.{done-is, served-is, served-as}
 use borrow.Author.Needs.{needs}
 use Rattle.records.proofs.perform.on_open.Statement.{statement}

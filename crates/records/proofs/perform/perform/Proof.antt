@@ -1,8 +1,9 @@
 -- By where the run stands.
 use mathlib.Core.Path.{refl}
-use Rattle.records.specs.Machine.{Buffers, buffers, recordOn, Ended}
+use Rattle.records_model.specs.declared.perform.Stage.the-variants.{Ended}
+use Rattle.records_model.specs.Machine.{Buffers, buffers, recordOn}
 use Rattle.records.proofs.answering.Leaving.{done-is, says-nothing}
-use Rattle.plate.specs.Lent.{views}
+use Rattle.plate_model.specs.Lent.{views}
 use borrow.Author.Needs.{needs}
 use Rattle.records.proofs.perform.perform.Statement.{statement}
 use Rattle.records.proofs.perform.perform.Tie as tie

@@ -3,11 +3,11 @@ use mathlib.Core.Path.{ap, sym, _∙_}
 use Prim.Native.Nat.{ℕ, _*_}
 use native.Mathlib.Omega.{arith}
 use lib.Seq.{length-take-le}
-use Rattle.plate.specs.declared.size.Size.{Size}
-use Rattle.records.specs.Machine.{buffers}
-use Rattle.records.proofs.lending.Rooms.{cells-within, places-within}
+use Rattle.plate_model.specs.declared.size.Size.{Size}
+use Rattle.records_model.specs.Machine.{buffers}
+use Rattle.records_model.proofs.lending.Rooms.{cells-within, places-within}
 use Rattle.records.proofs.answering.Leaving.{show-is}
-use Rattle.plate.specs.Fixed.{planesInAll, scratchPlanes}
+use Rattle.plate_model.specs.Fixed.{planesInAll, scratchPlanes}
 use borrow.Author.Needs.{needs}
 use Rattle.records.proofs.perform.show_on.Statement.{statement}
 use Rattle.records.proofs.perform.show_on.Tie as tie

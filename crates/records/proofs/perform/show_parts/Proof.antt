@@ -2,9 +2,9 @@
 use mathlib.Core.Path.{refl}
 use native.Mathlib.Omega.{arith}
 use native.Mathlib.Nat.{mul-comm}
-use Rattle.plate.specs.Layout.{places}
-use Rattle.plate.specs.Lent.{views}
-use Rattle.records.proofs.lending.Rooms.{has-room}
+use Rattle.plate_model.specs.Layout.{places}
+use Rattle.plate_model.specs.Lent.{views}
+use Rattle.records_model.proofs.lending.Rooms.{has-room}
 use Rattle.records.proofs.lending.ShowFits.{few-shown, text-fits}
 use borrow.Author.Needs.{needs}
 use Rattle.records.proofs.perform.show_parts.Statement.{statement}

@@ -1,7 +1,7 @@
 -- Each test picks its record.
 use native.Mathlib.Omega.{arith}
 use borrow.Author.Tests.{eq-eqb, ne-eqb}
-use Rattle.records.specs.Record.{recordOf}
+use Rattle.records_model.specs.Record.{recordOf}
 use borrow.Author.Needs.{needs}
 use Rattle.records.proofs.record.read.Statement.{statement}
 use Rattle.records.proofs.record.read.Tie as tie

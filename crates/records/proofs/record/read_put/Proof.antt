@@ -1,6 +1,6 @@
 -- The numbers are the body's pairs, and the shape is what `shape_of` says.
 use borrow.Author.Needs.{needs}
-use Rattle.kernels.proofs.taps.ShapeNumbers.{shape-read}
+use Rattle.kernels_model.proofs.taps.ShapeNumbers.{shape-read}
 use Rattle.records.proofs.record.read_put.Statement.{statement}
 use Rattle.records.proofs.record.read_put.Tie as tie
 

@@ -1,5 +1,5 @@
 -- Each request is its call.
-use Rattle.records.specs.Machine.{requestCall}
+use Rattle.records_model.specs.Machine.{requestCall}
 use borrow.Author.Needs.{needs}
 use Rattle.records.proofs.request.call.Statement.{statement}
 use Rattle.records.proofs.request.call.Tie as tie

@@ -2,10 +2,10 @@
 use mathlib.Core.Path.{sym}
 use Prim.Native.Nat.{_≤_, _<_}
 use native.Mathlib.Omega.{arith}
-use Rattle.plate.specs.Layout.{wide, high, padded, places}
-use Rattle.kernels.proofs.numbers.Products.{product-le}
-use Rattle.records.proofs.lending.Rooms.{has-room, no-room, long, tall}
-use Rattle.records.specs.Fixed.{cellsTop}
+use Rattle.plate_model.specs.Layout.{wide, high, padded, places}
+use Rattle.kernels_model.proofs.numbers.Products.{product-le}
+use Rattle.records_model.proofs.lending.Rooms.{has-room, no-room, long, tall}
+use Rattle.records_model.specs.Fixed.{cellsTop}
 use borrow.Author.Needs.{needs}
 use Rattle.records.proofs.request.room.Statement.{statement}
 use Rattle.records.proofs.request.room.Tie as tie

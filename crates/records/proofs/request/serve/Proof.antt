@@ -3,11 +3,11 @@ use mathlib.Core.Path.{_≡_, ap, sym, _∙_}
 use Prim.Native.Nat.{ℕ, _*_}
 use native.Mathlib.Omega.{arith}
 use lib.Seq.{length-take-le}
-use Rattle.plate.specs.declared.size.Size.{Size}
-use Rattle.plate.specs.Fixed.{planesInAll}
-use Rattle.plate.specs.Lent.{lent}
-use Rattle.records.specs.Machine.{cellsOf, placesOf, requestSize}
-use Rattle.records.proofs.lending.Rooms.{cells-within, places-within}
+use Rattle.plate_model.specs.declared.size.Size.{Size}
+use Rattle.plate_model.specs.Fixed.{planesInAll}
+use Rattle.plate_model.specs.Lent.{lent}
+use Rattle.records_model.specs.Machine.{cellsOf, placesOf, requestSize}
+use Rattle.records_model.proofs.lending.Rooms.{cells-within, places-within}
 use Rattle.records.proofs.lending.Requests.{request-is}
 use borrow.Author.Needs.{needs}
 use Rattle.records.proofs.request.serve.Statement.{statement}

@@ -3,7 +3,7 @@ use mathlib.Core.Path.{_∙_}
 use native.Mathlib.Omega.{arith}
 use Prim.Native.Nat.{_≤_}
 use lib.ListN.{length}
-use Rattle.records.specs.Text.{decimal, cellText}
+use Rattle.records_model.specs.Text.{decimal, cellText}
 use Rattle.records.proofs.writing.Slices.{then-wrote}
 use Rattle.records.proofs.writing.Decimals.{decimal-short}
 use borrow.Author.Needs.{needs}

@@ -1,7 +1,7 @@
 -- One piece after another; the numbers have at most 20 digits each.
 use mathlib.Core.Path.{_∙_}
 use native.Mathlib.Omega.{arith}
-use Rattle.records.specs.Text.{headLine}
+use Rattle.records_model.specs.Text.{headLine}
 use Rattle.records.proofs.writing.Slices.{then-wrote}
 use Rattle.records.proofs.writing.Decimals.{decimal-long}
 use borrow.Author.Needs.{needs}

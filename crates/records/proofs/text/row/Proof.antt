@@ -4,9 +4,9 @@ use Prim.Native.Nat.{_+_, _-_, _≤_}
 use native.Mathlib.Omega.{arith}
 use borrow.Author.Needs.{needs}
 use lib.ListN.{length}
-use Rattle.records.specs.Text.{rowText}
-use Rattle.records.specs.code.Written.{Wrote}
-use Rattle.records.specs.code.Room.{rowRoom}
+use Rattle.records_model.specs.Text.{rowText}
+use Rattle.records.specs.Written.{Wrote}
+use Rattle.records.specs.Room.{rowRoom}
 use Rattle.records.proofs.writing.Slices.{wrote-nothing, then-wrote}
 use Rattle.records.proofs.writing.Rows.{row-more}
 use Rattle.records.proofs.text.row.Statement.{statement}

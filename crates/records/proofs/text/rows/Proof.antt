@@ -4,10 +4,10 @@ use Prim.Native.Nat.{_+_, _*_, _-_, _≤_}
 use native.Mathlib.Omega.{arith}
 use borrow.Author.Needs.{needs}
 use lib.ListN.{length}
-use Rattle.kernels.proofs.numbers.Products.{product-le}
-use Rattle.records.specs.Text.{rowsText}
-use Rattle.records.specs.code.Written.{Wrote}
-use Rattle.records.specs.code.Room.{rowRoom, rowsRoom}
+use Rattle.kernels_model.proofs.numbers.Products.{product-le}
+use Rattle.records_model.specs.Text.{rowsText}
+use Rattle.records.specs.Written.{Wrote}
+use Rattle.records.specs.Room.{rowRoom, rowsRoom}
 use Rattle.records.proofs.writing.Slices.{wrote-nothing, then-wrote}
 use Rattle.records.proofs.writing.Rows.{rows-more}
 use Rattle.records.proofs.text.rows.Statement.{statement}

@@ -1,5 +1,5 @@
 -- The head, and the rows after it.
-use Rattle.records.specs.Text.{showText}
+use Rattle.records_model.specs.Text.{showText}
 use Rattle.records.proofs.writing.Slices.{then-wrote}
 use borrow.Author.Needs.{needs}
 use Rattle.records.proofs.text.show.Statement.{statement}

@@ -5,7 +5,7 @@ use native.Mathlib.Omega.{arith}
 use borrow.Author.Needs.{needs}
 use lib.ListN.{length, take}
 use lib.Seq.{length-take-le, take-length}
-use Rattle.records.specs.code.Written.{Wrote}
+use Rattle.records.specs.Written.{Wrote}
 use Rattle.records.proofs.writing.Slices.{wrote-nothing, word-more}
 use Rattle.records.proofs.text.word.Statement.{statement}
 use Rattle.records.proofs.text.word.Tie as tie

@@ -1,0 +1,16 @@
+pub mod Fixed
+pub mod Choice
+pub mod Told
+pub mod Rows
+pub mod Sum
+pub mod Shape
+pub mod Tap
+pub mod Share
+pub mod Mark
+pub mod Drawing
+pub mod Band
+pub mod Facts
+pub mod Rounding
+pub mod Lens
+pub mod Starred
+pub mod Promises

@@ -1,0 +1,33 @@
+-- What is proved of the kernels, in one record.
+use Rattle.kernels_model.specs.Facts.{ShapeFact, UnderFact, BoxFact, SlopeFact, PieceFact, LineFact, KernelFact, WholeFact, ShapesWhole, OctagonWhole, CountFact, CountsFew, NearFact, TableFact, DrawnFact, BandFact, LevelFact, EvenOnce, ValueFact, TopFact}
+use Rattle.kernels_model.specs.Starred.{starred, Agree}
+
+pub record Promises : Type 0 where
+  -- the table of shapes
+  pub shapes : ShapeFact
+  pub under : UnderFact
+  -- marks, summed, are the kernel's weights in every cell
+  pub boxes : BoxFact
+  pub slopes : SlopeFact
+  pub pieces : PieceFact
+  pub lines : LineFact
+  pub kernels : KernelFact
+  -- its weights are the whole
+  pub weights-whole : WholeFact
+  pub shapes-whole : ShapesWhole
+  pub octagon-whole : OctagonWhole
+  -- its marks are few, and near
+  pub count : CountFact
+  pub few : CountsFew
+  pub near : NearFact
+  -- what the code hands out of it is what is defined
+  pub table : TableFact
+  pub drawing : DrawnFact
+  pub band : BandFact
+  pub level : LevelFact
+  -- rounding
+  pub even-once : EvenOnce
+  pub value : ValueFact
+  pub top : TopFact
+  -- the paper's starred examples
+  pub examples : Agree starred

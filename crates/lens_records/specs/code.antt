@@ -1,2 +1,0 @@
--- What only contracts inside the program use.
-pub mod Feeding

@@ -1,0 +1,100 @@
+-- Answers by rows of the table of refusals, and checks that keep to a row.
+use mathlib.Core.Path.{_≡_, refl, sym, _∙_}
+use mathlib.Core.Logic.{_⊎_, inl, inr, ⊎-elim}
+use mathlib.Core.List.{List, [], _∷_, _++_}
+use Prim.Native.Nat.{ℕ}
+use native.Mathlib.Omega.{arith}
+use Rattle.plate_model.specs.Refusal.{Refusal, Outcome, Accepted, Refused}
+use Rattle.kernels_model.specs.Rows.{Row, row, FirstOf}
+use Rattle.kernels_model.proofs.refusals.Rows.{NoneOf, none-accepted, accepted-none, same-answer, first-then}
+use Rattle.plate_model.specs.Table.{AnswersBy}
+
+pub refused-not : {P : Type 0} (f : Refusal) → Refused f ≡ Accepted → P
+refused-not f e = let z : _≡_ {A = ℕ} 0 1 = cc in absurd (omega arith)
+
+-- AN ANSWER BY ROWS
+-- it is accepted exactly where none applies
+pub none-refused : (rows : List (Row Refusal)) (o : Outcome) → AnswersBy rows o → NoneOf rows → o ≡ Accepted
+none-refused rows o = none-accepted (λ f. o ≡ Refused f) (o ≡ Accepted) rows
+
+pub refused-none : (rows : List (Row Refusal)) (o : Outcome) → AnswersBy rows o → o ≡ Accepted → NoneOf rows
+refused-none rows o =
+    accepted-none (λ f. o ≡ Refused f) (o ≡ Accepted) rows (λ f r a. refused-not f (sym r ∙ a))
+
+-- and there is one such answer
+pub answered-once : (rows : List (Row Refusal)) (o p : Outcome) → AnswersBy rows o → AnswersBy rows p → o ≡ p
+answered-once rows o p =
+    same-answer (λ f. o ≡ Refused f) (o ≡ Accepted) (λ f. p ≡ Refused f) (p ≡ Accepted) rows
+    (λ f a b. a ∙ sym b)
+    (λ a b. a ∙ sym b)
+
+-- past the last row a call is accepted
+pub last-row : AnswersBy [] Accepted
+unfolding FirstOf
+last-row = refl
+
+-- TWO LISTS OF CHECKS, one after the other
+abbrev pub andThen : Outcome → Outcome → Outcome
+andThen Accepted next = next
+andThen (Refused f) next = Refused f
+
+-- both accept where the two in a row do
+pub and-then : (a next : Outcome) → andThen a next ≡ Accepted → (a ≡ Accepted) × (next ≡ Accepted)
+and-then Accepted next e = (refl, e)
+and-then (Refused f) next e = refused-not f e
+
+pub answers-then : (rows more : List (Row Refusal)) (o p : Outcome) → AnswersBy rows o → (o ≡ Accepted → AnswersBy more p)
+    → AnswersBy (rows ++ more) (andThen o p)
+answers-then rows more o p first rest =
+    first-then (λ f. o ≡ Refused f) (o ≡ Accepted) (λ f. andThen o p ≡ Refused f) (andThen o p ≡ Accepted) rows more
+    (λ f r. rw r)
+    (λ a. rw a (rest a))
+    first
+
+-- CHECKS
+-- a check that keeps to a row: where the row applies it refuses, whatever comes next; where the row does not, and something is
+-- clear, it says what comes next
+pub record Checks (f : Refusal) (given clear : Type 0) (check : Outcome → Outcome) : Type 0 where
+  pub apart : given → clear → ⊥
+  pub told : (given × ((next : Outcome) → check next ≡ Refused f)) ⊎ (clear × ((next : Outcome) → check next ≡ next))
+
+module _ {f : Refusal} {G C : Type 0} {check : Outcome → Outcome} where
+  pub refusing : (G → C → ⊥) → G → ((next : Outcome) → check next ≡ Refused f) → Checks f G C check
+  refusing apart g e = record { apart = apart; told = inl (g, e) }
+
+  pub passing : (G → C → ⊥) → C → ((next : Outcome) → check next ≡ next) → Checks f G C check
+  passing apart c e = record { apart = apart; told = inr (c, e) }
+
+  pub by-check : {P : Type 0} → Checks f G C check
+      → (G → ((next : Outcome) → check next ≡ Refused f) → P)
+      → (C → ((next : Outcome) → check next ≡ next) → P) → P
+  by-check k p q = ⊎-elim (λ a. p (a .0) (a .1)) (λ a. q (a .0) (a .1)) (k .told)
+
+  -- where it accepts, something is clear, and what comes next accepts
+  pub check-passed : Checks f G C check → (next : Outcome) → check next ≡ Accepted → C × (next ≡ Accepted)
+  check-passed k next e = by-check k (λ g r. refused-not f (sym (r next) ∙ e)) (λ c r. (c, sym (r next) ∙ e))
+
+  pub check-passes : Checks f G C check → (next : Outcome) → C → check next ≡ next
+  check-passes k next c = by-check k (λ g r. absurd (k .apart g c)) (λ c r. r next)
+
+  pub check-before : Checks f G C check → (a next : Outcome) → check (andThen a next) ≡ andThen (check a) next
+  check-before k a next =
+      by-check k (λ g r. rw (r (andThen a next), r a)) (λ c r. rw (r (andThen a next), r a))
+
+  -- the row of a check is the first of the rows
+  pub first-check : Checks f G C check → (rows : List (Row Refusal)) (next : Outcome) → (C → AnswersBy rows next)
+      → AnswersBy (row f G ∷ rows) (check next)
+  unfolding FirstOf
+  first-check k rows next rest =
+      by-check k (λ g r. inl (g, r next)) (λ c r. inr ((λ g. k .apart g c), rw (r next) (rest c)))
+
+-- two checks for one row
+pub checks-both : {f : Refusal} {G C H D : Type 0} {check other : Outcome → Outcome}
+    → Checks f G C check → Checks f H D other → Checks f (G ⊎ H) (C × D) (λ next. check (other next))
+checks-both {f} {G} {C} {H} {D} {check} {other} k m =
+    let apart : G ⊎ H → C × D → ⊥ = λ g c. ⊎-elim (λ a. k .apart a (c .0)) (λ a. m .apart a (c .1)) g in
+    by-check k
+    (λ g r. refusing apart (inl g) (λ next. r (other next)))
+    (λ c r. by-check m
+    (λ h q. refusing apart (inr h) (λ next. r (other next) ∙ q next))
+    (λ d q. passing apart (c, d) (λ next. r (other next) ∙ q next)))

@@ -1,0 +1,326 @@
+-- DEMAND 1: every call answers the first refusal of its rows whose condition holds, is accepted where none does, and leaves
+-- everything as it was where it is refused.
+use mathlib.Core.Path.{_≡_, refl, ap, sym, _∙_}
+use mathlib.Core.Logic.{_⊎_, inl, inr, ⊎-elim}
+use mathlib.Core.List.{List, [], _∷_}
+use Prim.Native.Nat.{ℕ, _-_}
+use lib.ListN.{getD, length}
+use Rattle.kernels_model.specs.Fixed.{valueTop, depthTop}
+use Rattle.kernels_model.specs.Rows.{Row, row, FirstOf}
+use Rattle.kernels_model.specs.declared.lens.Lens.{Lens as LensOf}
+use Rattle.kernels_model.specs.Shape.{shapeOf}
+use Rattle.plate_model.specs.Layout.{Size, sizeFrom}
+use Rattle.plate_model.specs.Lent.{State, stateOf, Lent, sizedAs, Ask, Inputs, Views, Canvas}
+use Rattle.plate_model.specs.Word.{readWord, readEntry}
+use Rattle.plate_model.specs.Refusal.{Refusal, Sizes, Lengths, LogCount, Place, Value, Shape, Radius, LogFull, StoredWord, Lens, Depth, DepthInside, Outcome, Accepted, Refused, openCheck, plateCheck, askCheck, putCheck, undoCheck, emptyCheck, fillFirst, layerCheck, fillCheck, viewsCheck, totalCheck, showCheck, sizesCheck, canvasCheck, keptCheck, showKeptCheck}
+use Rattle.plate_model.specs.Change.{Change, ChangeRead, ToChange, NoChange, askedPlace, putOver, putReadBy, putRead, undoOver, undoEntry, undoReadBy, undoRead}
+use Rattle.plate_model.specs.Calls.{Left, refused, Shown, shows, answerOf, openBy, openCall, putBy, putCall, undoBy, undoCall, fillBy, fillCall, showBy, showCall, changed}
+use Rattle.plate_model.specs.Kept.{Refreshed, leavesKept, keptRead, canvasFirst, canvasBy, putKeptBy, putKeptCall, undoKeptBy, undoKeptCall, sumsBy, ShownKept, showsKept, showKeptBy, showKeptCall}
+use Rattle.plate_model.specs.Total.{Totalled, totalled, noTotals, totalBy, totalCall}
+use Rattle.plate_model.specs.Table.{AnswersBy, CanvasWrong, SizesOutside, LentWrong, InputsWrong, ViewsWrong, TotalWrong, CountAbove, PlaceOutside, ValueAbove, SomeOf, ShapeAbove, RadiusAbove, WordBroken, EntryBroken, placeIn, LensOutside, DepthAbove, InsideLens, LawfulSize, openRows, putRows, undoRows, fillRows, showRows, totalRows, putKeptRows, undoKeptRows, showKeptRows, CallBy, GoesBy, ShowGoesBy, KeptGoesBy, ShowKeptGoesBy, TotalGoesBy, Orders, Demand1, OpenAccepts}
+use Rattle.plate_model.proofs.checks.Rows.{refused-not, last-row, andThen, answers-then, Checks, by-check, check-before, first-check, checks-both}
+use Rattle.plate_model.proofs.checks.Conditions.{sizes-checks, length-checks, lent-checks, inputs-checks, total-checks, views-checks, canvas-checks, count-checks, place-checks, value-checks, shape-checks, radius-checks, full-checks, empty-checks, above-checks, inside-checks, lens-checks}
+use Rattle.plate_model.proofs.checks.Passed.{sizes-pass, lent-pass}
+use Rattle.plate_model.proofs.checks.Accepted.{plate-accepted}
+use Rattle.plate_model.proofs.words.Stored.{WordTold, word-told, EntryTold, entry-told}
+
+-- WHERE A CALL IS REFUSED
+-- a call that goes on by what it has heard, from its check or from what it read: its outcome is the one that it heard, and where
+-- that is a refusal it is the refused call
+module _ {R A : Type 0} (heard : R → Outcome) (outcomeIn : A → Outcome) (refusedAs : Refusal → A) (by : R → A)
+    (accepts : (r : R) → heard r ≡ Accepted → outcomeIn (by r) ≡ Accepted)
+    (refuses : (r : R) (f : Refusal) → heard r ≡ Refused f → by r ≡ refusedAs f)
+    (tells : (f : Refusal) → outcomeIn (refusedAs f) ≡ Refused f) where
+  outcome-as : (r : R) (o : Outcome) → heard r ≡ o → outcomeIn (by r) ≡ o
+  outcome-as r Accepted e = accepts r e
+  outcome-as r (Refused f) e = ap outcomeIn (refuses r f e) ∙ tells f
+
+  outcome-is : (r : R) → outcomeIn (by r) ≡ heard r
+  outcome-is r = outcome-as r (heard r) refl
+
+  left-is : (r : R) (f : Refusal) → outcomeIn (by r) ≡ Refused f → by r ≡ refusedAs f
+  left-is r f e = refuses r f (sym (outcome-is r) ∙ e)
+
+  call-by : (rows : List (Row Refusal)) (r : R) → AnswersBy rows (heard r) → CallBy rows outcomeIn refusedAs (by r)
+  call-by rows r first = record { first = rw (outcome-is r) first; untouched = left-is r }
+
+-- a call of planes, pixels and log
+module _ {R : Type 0} (heard : R → Outcome) (s : State) (l : Lent) (by : R → Left)
+    (accepts : (r : R) → heard r ≡ Accepted → by r .answer .outcome ≡ Accepted)
+    (refuses : (r : R) (f : Refusal) → heard r ≡ Refused f → by r ≡ refused f s l) where
+  goes-by : (rows : List (Row Refusal)) (r : R) → AnswersBy rows (heard r) → GoesBy rows s l (by r)
+  goes-by = call-by heard (λ (a : Left). a .answer .outcome) (λ f. refused f s l) by accepts refuses (λ f. refl)
+
+-- OPEN
+open-goes : (z : Size) (l : Lent) → GoesBy (openRows z l) (stateOf (sizeFrom 0 0 0) 0) l (openCall z l)
+unfolding openCall openBy openCheck
+open-goes z l =
+    goes-by (λ o. o) (stateOf (sizeFrom 0 0 0) 0) l (λ o. openBy o z l) (λ o e. rw e) (λ o f e. rw e) (openRows z l) _
+    (first-check (sizes-checks z) _ _ (λ _. first-check (lent-checks z (sizedAs l)) [] Accepted (λ _. last-row)))
+
+-- WHAT PUT AND UNDO READ
+-- the outcome of what was read
+abbrev outcomeOf : ChangeRead → Outcome
+outcomeOf (ToChange c) = Accepted
+outcomeOf (NoChange f) = Refused f
+
+change-read : (r : ChangeRead) → outcomeOf r ≡ Accepted → (c : Change) × (r ≡ ToChange c)
+change-read (ToChange c) e = (c, refl)
+change-read (NoChange f) e = refused-not f e
+
+refusal-read : (r : ChangeRead) (f : Refusal) → outcomeOf r ≡ Refused f → r ≡ NoChange f
+refusal-read (ToChange c) f e = refused-not f (sym e)
+refusal-read (NoChange g) f e = let same : g ≡ f = cc in rw same
+
+-- 1 2 3, and what is known where they pass
+plate-first : (s : State) (l : Lent) (rows : List (Row Refusal)) (next : Outcome) → (LawfulSize (s .size) → AnswersBy rows next)
+    → AnswersBy
+    (row Sizes (SizesOutside (s .size)) ∷ row Lengths (LentWrong (s .size) (sizedAs l)) ∷ row LogCount (CountAbove s l) ∷ rows)
+    (plateCheck s (sizedAs l) next)
+unfolding plateCheck
+plate-first s l rows next rest =
+    first-check (sizes-checks (s .size)) _ _ (λ lawful.
+    first-check (lent-checks (s .size) (sizedAs l)) _ _ (λ _.
+    first-check (count-checks (s .count) (length (l .log))) rows next (λ _. rest lawful)))
+
+-- what is read where a check accepts
+put-outcome : (o : Outcome) (z : Size) (a : Ask) (pixels : List ℕ)
+    → outcomeOf (putReadBy o z a pixels)
+    ≡ andThen o (outcomeOf (putOver (readWord (z .reach) (getD pixels (askedPlace z a) 0)) z a))
+unfolding putReadBy
+put-outcome Accepted z a pixels = refl
+put-outcome (Refused f) z a pixels = refl
+
+undo-outcome : (o : Outcome) (s : State) (pixels log : List ℕ)
+    → outcomeOf (undoReadBy o s pixels log)
+    ≡ andThen o (outcomeOf (undoEntry (readEntry (s .size) (getD log (s .count - 1) 0)) (s .size) pixels))
+unfolding undoReadBy
+undo-outcome Accepted s pixels log = refl
+undo-outcome (Refused f) s pixels log = refl
+
+-- 10 of a put
+put-stored : (z : Size) (a : Ask) (w : ℕ) → WordTold (z .reach) w
+    → AnswersBy (row StoredWord (WordBroken (z .reach) w) ∷ []) (outcomeOf (putOver (readWord (z .reach) w) z a))
+unfolding FirstOf putOver
+put-stored z a w (inl t) = inl (t .0, rw (t .1))
+put-stored z a w (inr t) = inr (t .sound, rw (t .read))
+
+-- and of an undo
+undo-stored : (z : Size) (e : ℕ) (pixels : List ℕ) → EntryTold z e
+    → AnswersBy (row StoredWord (EntryBroken z e ⊎ WordBroken (z .reach) (getD pixels (placeIn e) 0)) ∷ [])
+    (outcomeOf (undoEntry (readEntry z e) z pixels))
+unfolding FirstOf undoEntry undoOver
+undo-stored z e pixels (inl t) = inl (inl (t .0), rw (t .1))
+undo-stored z e pixels (inr t) =
+    ⊎-elim
+    (λ w. inl (inr (w .0), rw (t .read, t .place-is, w .1)))
+    (λ w. inr (⊎-elim (t .sound) (w .sound), rw (t .read, t .place-is, w .read)))
+    (word-told (z .reach) (getD pixels (placeIn e) 0))
+
+-- PUT
+-- 4 to 8
+ask-first : (z : Size) (n room : ℕ) (a : Ask)
+    → AnswersBy
+    (row Place (PlaceOutside z (a .x) (a .y))
+    ∷ row Value (ValueAbove (a .value))
+    ∷ row Shape (ShapeAbove (a .shape))
+    ∷ row Radius (RadiusAbove (z .reach) (shapeOf (a .shape)) (a .radius))
+    ∷ row LogFull (n ≡ room)
+    ∷ [])
+    (askCheck z n room a)
+unfolding askCheck
+ask-first z n room a =
+    first-check (place-checks z a) _ _ (λ _.
+    first-check (value-checks (a .value)) _ _ (λ _.
+    first-check (shape-checks (a .shape)) _ _ (λ _.
+    first-check (radius-checks (z .reach) (shapeOf (a .shape)) (a .radius)) _ _ (λ _.
+    first-check (full-checks n room) [] Accepted (λ _. last-row)))))
+
+-- what it reads goes by the rows
+put-reads : (s : State) (a : Ask) (l : Lent) → AnswersBy (putRows s a l) (outcomeOf (putRead s a (sizedAs l) (l .pixels)))
+unfolding putRead putCheck
+put-reads s a l =
+    let z = s .size in
+    let check = plateCheck s (sizedAs l) (askCheck z (s .count) (length (l .log)) a) in
+    rw (put-outcome check z a (l .pixels))
+    (answers-then _ _ check _
+    (plate-first s l _ _ (λ _. ask-first z (s .count) (length (l .log)) a))
+    (λ _. put-stored z a _ (word-told (z .reach) (getD (l .pixels) (askedPlace z a) 0))))
+
+put-goes : (s : State) (a : Ask) (l : Lent) → GoesBy (putRows s a l) s l (putCall s a l)
+unfolding putCall putBy changed
+put-goes s a l =
+    goes-by outcomeOf s l (λ r. putBy r s l) (λ r e. rw (change-read r e .1)) (λ r f e. rw (refusal-read r f e)) (putRows s a l)
+    (putRead s a (sizedAs l) (l .pixels)) (put-reads s a l)
+
+-- UNDO
+undo-reads : (s : State) (l : Lent) → AnswersBy (undoRows s l) (outcomeOf (undoRead s (sizedAs l) (l .pixels) (l .log)))
+unfolding undoRead undoCheck
+undo-reads s l =
+    let z = s .size in
+    let check = plateCheck s (sizedAs l) (emptyCheck (s .count) Accepted) in
+    rw (undo-outcome check s (l .pixels) (l .log))
+    (answers-then _ _ check _
+    (plate-first s l _ _ (λ _. first-check (empty-checks (s .count)) [] Accepted (λ _. last-row)))
+    (λ e. undo-stored z _ (l .pixels)
+    (entry-told z (getD (l .log) (s .count - 1) 0) (plate-accepted s (sizedAs l) _ e .0 .lawful))))
+
+undo-goes : (s : State) (l : Lent) → GoesBy (undoRows s l) s l (undoCall s l)
+unfolding undoCall undoBy changed
+undo-goes s l =
+    goes-by outcomeOf s l (λ r. undoBy r s l) (λ r e. rw (change-read r e .1)) (λ r f e. rw (refusal-read r f e)) (undoRows s l)
+    (undoRead s (sizedAs l) (l .pixels) (l .log)) (undo-reads s l)
+
+-- FILL
+-- 5 6 11 12 17
+layer-first : (o : LensOf) (k : ℕ) (f : Inputs)
+    → AnswersBy
+    (row Value (SomeOf ValueAbove (f .values))
+    ∷ row Shape (ShapeAbove k)
+    ∷ row Lens (LensOutside o)
+    ∷ row Depth (SomeOf DepthAbove (f .depths))
+    ∷ row DepthInside (SomeOf (InsideLens o) (f .depths))
+    ∷ [])
+    (layerCheck o k f)
+unfolding layerCheck
+layer-first o k f =
+    first-check (above-checks Value valueTop (f .values)) _ _ (λ _.
+    first-check (shape-checks k) _ _ (λ _.
+    first-check (lens-checks o) _ _ (λ _.
+    first-check (above-checks Depth depthTop (f .depths)) _ _ (λ _.
+    first-check (inside-checks o (f .depths)) [] Accepted (λ _. last-row)))))
+
+fill-goes : (s : State) (o : LensOf) (k : ℕ) (f : Inputs) (l : Lent) → GoesBy (fillRows s o k f l) s l (fillCall s o k f l)
+unfolding fillCall fillBy fillCheck fillFirst InputsWrong
+fill-goes s o k f l =
+    let z = s .size in
+    let inputs = inputs-checks z (length (f .values)) (length (f .opacities)) (length (f .depths)) in
+    goes-by (λ c. c) s l (λ c. fillBy c s o k f l) (λ c e. rw e) (λ c g e. rw e) (fillRows s o k f l) _
+    (first-check (sizes-checks z) _ _ (λ _.
+    first-check (checks-both (lent-checks z (sizedAs l)) inputs) _ _ (λ _.
+    first-check (count-checks (s .count) (length (l .log))) _ _ (λ _. layer-first o k f))))
+
+-- SHOW
+show-first : (s : State) (planes : List ℕ) (v : Views)
+    → AnswersBy (showRows s planes v)
+    (showCheck s (length planes) (length (v .scratch)) (length (v .values)) (length (v .mattes)))
+unfolding showCheck viewsCheck ViewsWrong
+show-first s planes v =
+    let z = s .size in
+    let lengths = views-checks z (length planes) (length (v .scratch)) (length (v .values)) (length (v .mattes)) in
+    first-check (sizes-checks z) _ _ (λ _. first-check lengths [] Accepted (λ _. last-row))
+
+show-goes : (s : State) (planes : List ℕ) (v : Views) → ShowGoesBy (showRows s planes v) s v (showCall s planes v)
+unfolding showCall showBy
+show-goes s planes v =
+    call-by (λ o. o) (λ (a : Shown). a .answer .outcome) (λ f. shows (answerOf (Refused f) 0 s) v) (λ o. showBy o s planes v)
+    (λ o e. rw e) (λ o f e. rw e) (λ f. refl) (showRows s planes v) _ (show-first s planes v)
+
+-- THE SECOND FORMS
+-- a length more is checked after the sizes, and before what the first form checks: it is one more reason for 2
+also-checked : {C D : Type 0} {check : Outcome → Outcome} (z : Size) → Checks Lengths C D check
+    → (L : Type 0) (rows : List (Row Refusal)) (next : Outcome)
+    → AnswersBy (row Sizes (SizesOutside z) ∷ row Lengths L ∷ rows) next
+    → AnswersBy (row Sizes (SizesOutside z) ∷ row Lengths (L ⊎ C) ∷ rows) (sizesCheck z (check next))
+unfolding FirstOf
+also-checked {C} {D} {check} z k L rows next first =
+    first-check (sizes-checks z) (row Lengths (L ⊎ C) ∷ rows) (check next) (λ lawful. by-check k wrong (λ right r. rw (r next) (past lawful right first)))
+  where
+    wrong : C → ((o : Outcome) → check o ≡ Refused Lengths) → AnswersBy (row Lengths (L ⊎ C) ∷ rows) (check next)
+    wrong c r = inl (inr c, r next)
+
+    after : D → AnswersBy (row Lengths L ∷ rows) next → AnswersBy (row Lengths (L ⊎ C) ∷ rows) next
+    after right (inl a) = inl (inl (a .0), a .1)
+    after right (inr a) = inr (⊎-elim (a .0) (λ c. k .apart c right), a .1)
+
+    past : LawfulSize z → D → AnswersBy (row Sizes (SizesOutside z) ∷ row Lengths L ∷ rows) next
+        → AnswersBy (row Lengths (L ⊎ C) ∷ rows) next
+    past lawful right (inl a) = absurd (a .0 lawful)
+    past lawful right (inr a) = after right (a .1)
+
+-- what is read where sums and pictures pass
+kept-outcome : (o : Outcome) (r : ChangeRead) → outcomeOf (keptRead o r) ≡ andThen o (outcomeOf r)
+unfolding keptRead
+kept-outcome Accepted r = refl
+kept-outcome (Refused f) r = refl
+
+-- the second form of put or undo reads by the rows of the first, and 2 comes from sums and pictures too
+kept-reads : (z : Size) (k : Canvas) (L : Type 0) (rows : List (Row Refusal)) (r : ChangeRead)
+    → AnswersBy (row Sizes (SizesOutside z) ∷ row Lengths L ∷ rows) (outcomeOf r)
+    → AnswersBy (row Sizes (SizesOutside z) ∷ row Lengths (L ⊎ CanvasWrong z k) ∷ rows) (outcomeOf (keptRead (canvasFirst z k) r))
+unfolding keptCheck canvasCheck CanvasWrong
+kept-reads z k L rows r first =
+    let lengths = canvas-checks z (length (k .sums)) (length (k .values)) (length (k .mattes)) in
+    rw (
+      kept-outcome (canvasFirst z k) r,
+      ← check-before (sizes-checks z) (canvasCheck z (length (k .sums)) (length (k .values)) (length (k .mattes))) (outcomeOf r),
+      ← check-before lengths Accepted (outcomeOf r),
+    )
+    (also-checked z lengths L rows (outcomeOf r) first)
+
+put-kept-goes : (s : State) (a : Ask) (l : Lent) (k : Canvas) → KeptGoesBy (putKeptRows s a l k) s l k (putKeptCall s a l k)
+unfolding putKeptCall putKeptBy putBy changed canvasBy
+put-kept-goes s a l k =
+    call-by outcomeOf (λ (c : Refreshed). c .call .answer .outcome) (λ f. leavesKept (answerOf (Refused f) 0 s) l k)
+    (λ r. putKeptBy r s l k) (λ r e. rw (change-read r e .1)) (λ r f e. rw (refusal-read r f e)) (λ f. refl) (putKeptRows s a l k)
+    (keptRead (canvasFirst (s .size) k) (putRead s a (sizedAs l) (l .pixels)))
+    (kept-reads (s .size) k _ _ _ (put-reads s a l))
+
+undo-kept-goes : (s : State) (l : Lent) (k : Canvas) → KeptGoesBy (undoKeptRows s l k) s l k (undoKeptCall s l k)
+unfolding undoKeptCall undoKeptBy undoBy changed canvasBy
+undo-kept-goes s l k =
+    call-by outcomeOf (λ (c : Refreshed). c .call .answer .outcome) (λ f. leavesKept (answerOf (Refused f) 0 s) l k)
+    (λ r. undoKeptBy r s l k) (λ r e. rw (change-read r e .1)) (λ r f e. rw (refusal-read r f e)) (λ f. refl) (undoKeptRows s l k)
+    (keptRead (canvasFirst (s .size) k) (undoRead s (sizedAs l) (l .pixels) (l .log)))
+    (kept-reads (s .size) k _ _ _ (undo-reads s l))
+
+show-kept-goes : (s : State) (planes : List ℕ) (v : Views) (sums : List ℕ)
+    → ShowKeptGoesBy (showKeptRows s planes v sums) s v sums (showKeptCall s planes v sums)
+unfolding showKeptCall showKeptBy showKeptCheck showBy sumsBy
+show-kept-goes s planes v sums =
+    call-by (λ o. o) (λ (a : ShownKept). a .call .answer .outcome)
+    (λ f. showsKept (answerOf (Refused f) 0 s) v sums) (λ o. showKeptBy o s planes v sums)
+    (λ o e. rw e) (λ o f e. rw e) (λ f. refl) (showKeptRows s planes v sums) _
+    (also-checked (s .size) (length-checks (length sums) _) _ [] _ (show-first s planes v))
+
+-- TOTAL
+total-goes : (s : State) (planes scratch : List ℕ) → TotalGoesBy (totalRows s planes scratch) s scratch (totalCall s planes scratch)
+unfolding totalCall totalBy totalCheck TotalWrong
+total-goes s planes scratch =
+    call-by (λ o. o) (λ (a : Totalled). a .totals .answer .outcome) (λ f. totalled (noTotals (answerOf (Refused f) 0 s)) scratch)
+    (λ o. totalBy o s planes scratch) (λ o e. rw e) (λ o f e. rw e) (λ f. refl) (totalRows s planes scratch) _
+    (first-check (sizes-checks (s .size)) _ _ (λ _.
+    first-check (total-checks (s .size) (length planes) (length scratch)) [] Accepted (λ _. last-row)))
+
+pub demand-1 : Demand1
+demand-1 =
+    record {
+      open-by = open-goes;
+      put-by = put-goes;
+      undo-by = undo-goes;
+      fill-by = fill-goes;
+      show-by = show-goes;
+      put-kept-by = put-kept-goes;
+      undo-kept-by = undo-kept-goes;
+      show-kept-by = show-kept-goes;
+      total-by = total-goes;
+    }
+
+pub orders : Orders
+orders =
+    record {
+      of-open = λ z l. refl;
+      of-put = λ s a l. refl;
+      of-undo = λ s l. refl;
+      of-fill = λ s o k f l. refl;
+      of-show = λ s planes v. refl;
+      of-total = λ s planes scratch. refl;
+      of-put-kept = λ s a l k. refl;
+      of-undo-kept = λ s l k. refl;
+      of-show-kept = λ s planes v sums. refl;
+    }
+
+-- PLATES THERE ARE
+pub open-accepts : OpenAccepts
+unfolding openCheck
+open-accepts z l lawful lent = sizes-pass z _ lawful ∙ lent-pass z (sizedAs l) Accepted lent

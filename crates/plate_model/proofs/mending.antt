@@ -1,0 +1,2 @@
+-- The cells that a change reaches.
+pub mod Reached

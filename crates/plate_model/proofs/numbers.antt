@@ -1,0 +1,3 @@
+-- Bounds of a plate's products, and laws of lists.
+pub mod Extents
+pub mod Lists

@@ -1,0 +1,3 @@
+-- The pixel word and the log entry: what is packed is read back, and what is stored is read where it breaks nothing.
+pub mod Words
+pub mod Stored

@@ -1,5 +1,0 @@
--- What only contracts inside the crate use: no statement about a public call needs it.
-pub mod Written
-pub mod Room
-pub mod Done
-pub mod Handed

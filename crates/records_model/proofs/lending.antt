@@ -1,0 +1,2 @@
+-- What is lent of the buffers.
+pub mod Rooms

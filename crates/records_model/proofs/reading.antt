@@ -1,0 +1,2 @@
+-- What a record looks at in its body.
+pub mod Bodies

@@ -1,0 +1,114 @@
+-- Each record that a run can meet does to the machine what it does to the notebook.
+use mathlib.Core.Path.{_≡_, refl, ap, _∙_}
+use mathlib.Core.List.{[]}
+use Prim.Native.Nat.{ℕ, _*_, _≤_, _<_}
+use native.Mathlib.Omega.{arith}
+use borrow.Author.Tests.{lt-ltb, le-ltb, ne-eqb}
+use lib.ListN.{length, replicate}
+use Rattle.kernels_model.proofs.numbers.Choices.{by-lt}
+use Rattle.plate_model.specs.Layout.{padded, places}
+use Rattle.plate_model.specs.declared.size.Size.{Size}
+use Rattle.plate_model.specs.declared.state.Outcome.{Outcome}
+use Rattle.plate_model.specs.declared.state.Outcome.the-variants.{Accepted, Refused}
+use Rattle.plate_model.specs.declared.state.Refusal.the-variants.{Sizes as BadSizes}
+use Rattle.plate_model.specs.Refusal.{refuseIf, sizesCheck, lentCheck, openCheck}
+use Rattle.plate_model.specs.Lent.{stateOf, sizedAs}
+use Rattle.plate_model.specs.Calls.{zeros, openBy, openCall, putCall, undoCall}
+use Rattle.plate_model.specs.Word.{empty}
+use Rattle.plate_model.specs.Lists.{Plate, leftBy}
+use Rattle.plate_model.proofs.checks.Rows.{by-check}
+use Rattle.plate_model.proofs.checks.Conditions.{sizes-checks}
+use Rattle.plate_model.proofs.checks.Passed.{lent-pass}
+use Rattle.plate_model.proofs.demands.Mirror.{Mirrored, heldBy, mirror, put-agrees, undo-agrees}
+use Rattle.plate_model.proofs.demands.Fills.{open-kept, open-mirror}
+use Rattle.records_model.specs.Record.{Record, Open, Put, NoShape, Undo, Show, strokeAsk, shapelessAsk}
+use Rattle.records_model.specs.Run.{Desk, opens, act}
+use Rattle.records_model.specs.Machine.{Stage, Buffers, cellsOf, placesOf, planesOf, frontOf, ToOpen, requestCall, requested, Did, openedBy, serving, recordOn}
+use Rattle.records_model.proofs.reading.Bodies.{LawfulRecord}
+use Rattle.records_model.proofs.lending.Rooms.{has-room, places-few}
+use Rattle.records_model.proofs.standing.Invariant.{RightLengths, lentOf, Stands, at-closed, at-open, Agrees, part-length, open-again, answered-agrees, show-agree}
+use Rattle.records_model.specs.Fixed.{cellsTop, logRoom}
+use Rattle.plate_model.specs.Fixed.{planesInAll}
+
+-- OPEN
+abbrev opening : ℕ → Size → Buffers → Did
+opening k z b = serving (openedBy k) (ToOpen z) b
+
+module _ (k : ℕ) (z : Size) (b : Buffers) (s : RightLengths b) where
+  open-sizes : ((next : Outcome) → sizesCheck z next ≡ Refused BadSizes) → Agrees k (opens z) (opening k z b)
+  unfolding opens requested requestCall openCall openBy openCheck openedBy
+  open-sizes bad = rw (bad Accepted, bad (lentCheck z (sizedAs (lentOf z b)) Accepted)) (refl, refl)
+
+  open-cells : ((next : Outcome) → sizesCheck z next ≡ next) → cellsTop < padded z → Agrees k (opens z) (opening k z b)
+  unfolding opens requested requestCall openCall openBy openCheck openedBy lentCheck frontOf refuseIf
+  open-cells fine h =
+      let none : cellsOf z ≡ 0 = rw (lt-ltb cellsTop (padded z) h) in
+      rw (
+        fine Accepted,
+        fine (lentCheck z (sizedAs (lentOf z b)) Accepted),
+        lt-ltb cellsTop (padded z) h,
+        ne-eqb 0 (planesInAll * padded z) (omega arith),
+      )
+      (refl, refl)
+
+  open-passes : ((next : Outcome) → sizesCheck z next ≡ next) → padded z ≤ cellsTop → openCheck z (sizedAs (lentOf z b)) ≡ Accepted
+  unfolding openCheck frontOf
+  open-passes fine h =
+      let cells = has-room z (padded z) h in
+      let pixels = has-room z (places z) h in
+      let small = places-few z in
+      fine (lentCheck z (sizedAs (lentOf z b)) Accepted)
+      ∙ lent-pass z (sizedAs (lentOf z b)) Accepted
+      (record {
+        planes-are =
+            part-length (planesOf z) (b .planes) (omega (arith, s .planes-are)) ∙ ap (λ (n : ℕ). planesInAll * n) cells;
+        pixels-are = part-length (placesOf z) (b .pixels) (omega (arith, s .pixels-are)) ∙ pixels;
+        log-top = omega (arith, s .log-is);
+      })
+
+  log-long : length (lentOf z b .log) ≡ logRoom
+  unfolding frontOf
+  log-long = s .log-is
+
+  open-fits : ((next : Outcome) → sizesCheck z next ≡ next) → padded z ≤ cellsTop → Agrees k (opens z) (opening k z b)
+  unfolding opens requested requestCall openedBy
+  open-fits fine h =
+      let l = lentOf z b in
+      let e = open-passes fine h in
+      let accepted : openCall z l .answer .outcome ≡ Accepted = unfold openCall openBy in (rw e) in
+      let planes = zeros (length (l .planes)) in
+      let grid = replicate (places z) empty in
+      let mirrors : leftBy (openCall z l) ≡ mirror z logRoom planes grid [] = rw log-long at (open-mirror z l e) in
+      let kept : Mirrored z logRoom planes grid [] = rw log-long at (open-kept z l e) in
+      let state : openCall z l .answer .state ≡ stateOf z 0 = ap (λ (p : Plate). p .state) mirrors in
+      rw (fine Accepted, le-ltb cellsTop (padded z) h, accepted, state)
+      (refl, open-again z b (openCall z l .kept) planes grid [] h s (ap (λ (p : Plate). p .kept) mirrors) kept)
+
+  pub open-agrees : Agrees k (opens z) (opening k z b)
+  open-agrees =
+      by-check (sizes-checks z)
+      (λ outside bad. open-sizes bad)
+      (λ lawful fine. by-lt cellsTop (padded z) (open-cells fine) (open-fits fine))
+
+-- A RECORD
+pub acts-agree : (k : ℕ) (s : Stage) (b : Buffers) (d : Desk) (r : Record) → Stands s b d → LawfulRecord r
+    → Agrees k (act k d r) (recordOn k s r b)
+unfolding act recordOn requested requestCall
+acts-agree k s b d (Open a) (at-closed sized) h = open-agrees k _ b sized
+acts-agree k s b d (Put p) (at-closed sized) h = (refl, refl)
+acts-agree k s b d (NoShape p) (at-closed sized) h = (refl, refl)
+acts-agree k s b d Undo (at-closed sized) h = (refl, refl)
+acts-agree k s b d Show (at-closed sized) h = (refl, refl)
+acts-agree k s b d (Open a) (at-open z planes grid pile sized small kept e) h = (refl, refl)
+acts-agree k s b d (Put p) (at-open z planes grid pile sized small kept e) h =
+    let left = putCall (stateOf z (length pile)) (strokeAsk p) (heldBy logRoom planes grid pile) in
+    rw e (answered-agrees k z b grid pile left _ small sized (put-agrees z logRoom planes grid pile kept (strokeAsk p) h))
+acts-agree k s b d (NoShape p) (at-open z planes grid pile sized small kept e) h =
+    let left = putCall (stateOf z (length pile)) (shapelessAsk p) (heldBy logRoom planes grid pile) in
+    rw e
+    (answered-agrees k z b grid pile left _ small sized
+    (put-agrees z logRoom planes grid pile kept (shapelessAsk p) (omega arith)))
+acts-agree k s b d Undo (at-open z planes grid pile sized small kept e) h =
+    let left = undoCall (stateOf z (length pile)) (heldBy logRoom planes grid pile) in
+    rw e (answered-agrees k z b grid pile left _ small sized (undo-agrees z logRoom planes grid pile kept))
+acts-agree k s b d Show (at-open z planes grid pile sized small kept e) h = show-agree k z planes grid pile b small sized kept e
