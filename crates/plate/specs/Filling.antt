@@ -1,7 +1,7 @@
 -- How the code fills a plate: what all pixels of a layer share, what its loops count on, and what they have done after n pixels.
 use mathlib.Core.Path.{_≡_}
 use mathlib.Core.Bool.{true}
-use mathlib.Core.List.{List, _∷_, map}
+use mathlib.Core.List.{List, map}
 use Prim.Native.Nat.{ℕ, _+_, _*_, _-_, _^_, _≤_, _<_, min}
 use lib.ListN.{getD, length}
 use Rattle.kernels_model.specs.Fixed.{valueTop, depthTop}

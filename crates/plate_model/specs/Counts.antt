@@ -1,7 +1,7 @@
 -- How many marks the calls of a list report.
 use mathlib.Core.Path.{_≡_}
 use mathlib.Core.List.{List, [], _∷_}
-use Prim.Native.Nat.{ℕ, _≤_}
+use Prim.Native.Nat.{_≤_}
 use Rattle.plate_model.specs.Layout.{Size}
 use Rattle.plate_model.specs.Lent.{Lent, sizedAs}
 use Rattle.plate_model.specs.Refusal.{Accepted, openCheck}

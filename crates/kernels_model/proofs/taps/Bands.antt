@@ -10,7 +10,7 @@ use borrow.Author.Tests.{le-leb, lt-leb, eqb-true}
 use Rattle.kernels_model.specs.Choice.{within, same}
 use Rattle.kernels_model.specs.Shape.{Shape, Box, Tent, Triple, Diamond, Hexagon, Octagon, boxesOf, topOf}
 use Rattle.kernels_model.specs.Tap.{boxTap, half, octagonTap, tap, share, rest, weight}
-use Rattle.kernels_model.specs.Share.{Share, shareFrom, shareParts}
+use Rattle.kernels_model.specs.Share.{Share, shareFrom}
 use Rattle.kernels_model.specs.Facts.{BandFact, LevelFact}
 use Rattle.kernels_model.specs.Band.{heightOf, rowRadius, ownTap, spanOf, Band, rowBand, noBand, bandFor, bandTap, bandWeight, isLevel, BandOf}
 use Rattle.kernels_model.proofs.numbers.Choices.{by-test, by-lt, if-within, within-yes, within-no, within-as, if-same}

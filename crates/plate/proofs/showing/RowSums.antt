@@ -5,7 +5,7 @@ use Prim.Native.Nat.{ℕ, _+_, _*_, _-_, _%_, _^_, _<_, _≤_}
 use native.Mathlib.Omega.{arith}
 use native.Mathlib.Nat.{mod-mod, add-mod-mod}
 use native.Mathlib.Numerals.{add-one}
-use lib.ListN.{length, getD, set}
+use lib.ListN.{length, getD}
 use borrow.Author.Count.{below-none, below-more}
 use Rattle.kernels_model.specs.Fixed.{level, secondBox, thirdBox}
 use Rattle.kernels_model.specs.Sum.{sum, Row}

@@ -2,15 +2,12 @@
 -- pixel's light or matte, which lie nowhere outside the padded plane.
 use mathlib.Core.Path.{_≡_, refl, ap, sym, _∙_}
 use mathlib.Core.List.{List, [], _∷_}
-use Prim.Native.Nat.{ℕ, _+_, _*_, _/_, _%_, _≤_, _<_}
+use Prim.Native.Nat.{ℕ, _+_, _*_, _/_, _%_, _<_}
 use native.Mathlib.Omega.{arith}
 use Rattle.plate_model.proofs.numbers.Extents.{place-within, row-of}
 use native.Mathlib.Nat.{mul-comm, mul-le-mul-right, mod-lt}
 use Rattle.kernels_model.specs.Choice.{same}
 use Rattle.kernels_model.specs.Mark.{Mark, scaled, planesOf}
-use Rattle.kernels_model.specs.declared.shape.Shape.{Shape}
-use Rattle.kernels_model.specs.declared.shape.Shape.the-variants.{Box, Tent, Triple, Diamond, Hexagon, Octagon}
-use Rattle.kernels_model.specs.Shape.{reachOf, topUnder}
 use Rattle.kernels_model.proofs.numbers.Choices.{by-lt, if-same, same-yes, same-no, same-as}
 use Rattle.kernels_model.specs.Facts.{Each, Near}
 use Rattle.kernels_model.proofs.taps.ShapeNumbers.{reach-under}

@@ -9,7 +9,6 @@ use borrow.Author.Tests.{eqb-true}
 use Rattle.kernels_model.specs.Choice.{pick}
 use Rattle.kernels_model.specs.Sum.{dist}
 use Rattle.kernels_model.specs.Shape.{reachOf}
-use Rattle.kernels_model.specs.Tap.{tap}
 use Rattle.kernels_model.specs.declared.band.Band.{Band}
 use Rattle.kernels_model.specs.Band.{BandOf}
 use Rattle.kernels_model.proofs.numbers.Choices.{by-test, by-lt}

@@ -1,7 +1,7 @@
 -- `band::band_of` meets its contract: above the shape's top it is the row of no cells, and up to it the calls give the numbers of
 -- the row.
 use mathlib.Core.Path.{_≡_, sym, _∙_}
-use Prim.Native.Nat.{ℕ, _+_, _*_, _≤_}
+use Prim.Native.Nat.{_+_, _*_, _≤_}
 use native.Mathlib.Omega.{arith}
 use Rattle.kernels_model.specs.Choice.{within}
 use Rattle.kernels_model.specs.Shape.{topOf}

@@ -1,7 +1,7 @@
 -- `band::weight_at` meets its contract: from its span on a band has no weight, and below it the sum is the definition's, whose
 -- factors are small enough by their types and the boxes' taps.
 use mathlib.Core.Path.{_≡_, ap, sym, _∙_}
-use Prim.Native.Nat.{ℕ, suc, _+_, _*_, _^_, _≤_, _<_}
+use Prim.Native.Nat.{ℕ, suc, _+_, _*_, _^_, _≤_}
 use native.Mathlib.Omega.{arith}
 use borrow.Author.Tests.{eq-eqb, ne-eqb}
 use Rattle.kernels_model.specs.Choice.{same}

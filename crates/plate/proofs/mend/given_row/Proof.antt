@@ -1,5 +1,5 @@
 -- `mend::given_row` meets its contract: the row that is handed out, with the kernel's own share, is that of the kernel.
-use mathlib.Core.Path.{_≡_, refl, sym, ap, subst, _∙_}
+use mathlib.Core.Path.{refl, sym, ap, subst, _∙_}
 use borrow.Author.Needs.{needs}
 use Rattle.kernels_model.specs.declared.share.Share.{Share}
 use Rattle.kernels_model.specs.declared.band.Band.{Band}

@@ -1,5 +1,4 @@
 -- `pass::matte_after` meets its contract: light ends with its sums down, and with its last plane.
-use Prim.Native.Nat.{_+_, _*_}
 use native.Mathlib.Omega.{arith}
 use Rattle.plate.specs.Passes.{startsAt}
 use borrow.Author.Needs.{needs}

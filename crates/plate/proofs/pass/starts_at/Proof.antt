@@ -3,7 +3,6 @@
 use mathlib.Core.Path.{refl}
 use Prim.Native.Nat.{_+_, _*_, _-_, _%_, _≤_}
 use native.Mathlib.Omega.{arith}
-use borrow.Author.Needs.{needs}
 use Rattle.plate.specs.Passes.{startsAt, twoLines}
 use Rattle.plate_model.proofs.numbers.Extents.{row-in}
 use Rattle.plate.proofs.showing.Starts.{side-le}

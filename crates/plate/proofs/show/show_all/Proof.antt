@@ -1,10 +1,8 @@
 -- `show::show_all` meets its contract: the rows of the image show the finished sums, and the scratch is cleared at the end.
-use mathlib.Core.Path.{_≡_, ap, _∙_}
-use Prim.Native.Nat.{ℕ, _+_, _-_, _≤_}
+use mathlib.Core.Path.{ap}
+use Prim.Native.Nat.{_-_}
 use native.Mathlib.Omega.{arith}
-use lib.ListN.{length}
 use borrow.Author.Needs.{needs}
-use Rattle.plate_model.specs.Calls.{zeros}
 use Rattle.plate.specs.Passes.{Picture}
 use Rattle.plate.specs.Showing.{BothIn}
 use Rattle.plate.proofs.showing.BothPictures.{both-on}

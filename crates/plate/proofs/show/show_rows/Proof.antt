@@ -1,6 +1,6 @@
 -- `show::show_rows` meets its contract. The invariant: the rows of the image before this one are shown, and the sums are ready
 -- for it.
-use mathlib.Core.Path.{_≡_, refl, _∙_}
+use mathlib.Core.Path.{_≡_, _∙_}
 use Prim.Native.Nat.{_+_, _*_, _-_, _^_, _<_, _≤_}
 use native.Mathlib.Omega.{arith}
 use borrow.Author.Needs.{needs}
