@@ -2,15 +2,32 @@
 use mathlib.Core.Path.{_≡_, refl, sym, _∙_}
 use mathlib.Core.Logic.{_⊎_, inl, inr, ⊎-elim}
 use mathlib.Core.List.{List, [], _∷_, _++_}
-use Prim.Native.Nat.{ℕ}
+use Prim.Native.Nat.{ℕ, _≤_}
 use native.Mathlib.Omega.{arith}
-use Rattle.plate_model.specs.Refusal.{Refusal, Outcome, Accepted, Refused}
+use lib.Dec.{lit≤}
+use Rattle.plate_model.specs.Refusal.{Refusal, Sizes, Lengths, LogCount, Place, Value, Shape, Radius, LogFull, LogEmpty, StoredWord, Lens, Depth, DepthInside, Outcome, Accepted, Refused, refusalNumber}
 use Rattle.kernels_model.specs.Rows.{Row, row, FirstOf}
 use Rattle.kernels_model.proofs.refusals.Rows.{NoneOf, none-accepted, accepted-none, same-answer, first-then}
 use Rattle.plate_model.specs.Table.{AnswersBy}
 
 pub refused-not : {P : Type 0} (f : Refusal) → Refused f ≡ Accepted → P
 refused-not f e = let z : _≡_ {A = ℕ} 0 1 = cc in absurd (omega arith)
+
+-- a refusal's number is not that of an accepted call
+pub refusal-some : (f : Refusal) → 1 ≤ refusalNumber f
+refusal-some Sizes = lit≤ tt
+refusal-some Lengths = lit≤ tt
+refusal-some LogCount = lit≤ tt
+refusal-some Place = lit≤ tt
+refusal-some Value = lit≤ tt
+refusal-some Shape = lit≤ tt
+refusal-some Radius = lit≤ tt
+refusal-some LogFull = lit≤ tt
+refusal-some LogEmpty = lit≤ tt
+refusal-some StoredWord = lit≤ tt
+refusal-some Lens = lit≤ tt
+refusal-some Depth = lit≤ tt
+refusal-some DepthInside = lit≤ tt
 
 -- AN ANSWER BY ROWS
 -- it is accepted exactly where none applies

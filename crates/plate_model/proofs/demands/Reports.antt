@@ -4,7 +4,6 @@ use mathlib.Core.Path.{_≡_, refl}
 use mathlib.Core.List.{List, [], _∷_}
 use Prim.Native.Nat.{ℕ, _+_, _*_, _≤_}
 use native.Mathlib.Omega.{arith}
-use lib.Dec.{lit≤}
 use lib.ListN.{length}
 use Rattle.kernels_model.specs.declared.shape.Shape.{Shape}
 use Rattle.kernels_model.specs.Shape.{shapeOf, countOf}
@@ -12,13 +11,14 @@ use Rattle.kernels_model.specs.declared.lens.Lens.{Lens as LensOf}
 use Rattle.kernels_model.proofs.taps.ShapeNumbers.{count-few}
 use Rattle.plate_model.specs.Layout.{Size}
 use Rattle.plate_model.specs.Word.{Pixel, Entry}
-use Rattle.plate_model.specs.Refusal.{Refusal, Sizes, Lengths, LogCount, Place, Value, Shape as ShapeRefused, Radius, LogFull, LogEmpty, StoredWord, Lens, Depth, DepthInside, refusalNumber, Outcome, Accepted, Refused, askCheck}
+use Rattle.plate_model.specs.Refusal.{Refusal, refusalNumber, Outcome, Accepted, Refused, askCheck}
 use Rattle.plate_model.specs.Lent.{Ask, ask, Inputs, inputs, Views}
 use Rattle.plate_model.specs.Change.{askedPlace, askedPixel, knownShape}
 use Rattle.plate_model.specs.Plain.{pixelAt}
 use Rattle.plate_model.specs.Notebook.{Book, bookOf, Report, plain, bookPutBy, bookPut, bookUndoOf, bookUndo, bookFillBy, bookFill, bookShowBy, bookShow, Turn, bookKept, bookPutKept, bookUndoKept, bookShowKept}
 use Rattle.plate_model.specs.Lists.{Byte, codes, Call, putIt, undoIt, fillIt, showIt, putKeptIt, undoKeptIt, showKeptIt, plateStep, bookStep, bookReports}
 use Rattle.plate_model.specs.Counts.{Few, CountOf, Counted, ListsCounted}
+use Rattle.plate_model.proofs.checks.Rows.{refusal-some}
 use Rattle.plate_model.proofs.demands.Demand.{demand-3}
 use Rattle.plate_model.proofs.demands.Mirror.{Mirrored, mirror, put-agrees, undo-agrees}
 use Rattle.plate_model.specs.Kernel.{markCount}
@@ -29,21 +29,6 @@ counts-few s t =
     let a = count-few s in
     let b = count-few t in
     (omega arith, omega arith)
-
-pub refusal-some : (f : Refusal) → 1 ≤ refusalNumber f
-refusal-some Sizes = lit≤ tt
-refusal-some Lengths = lit≤ tt
-refusal-some LogCount = lit≤ tt
-refusal-some Place = lit≤ tt
-refusal-some Value = lit≤ tt
-refusal-some ShapeRefused = lit≤ tt
-refusal-some Radius = lit≤ tt
-refusal-some LogFull = lit≤ tt
-refusal-some LogEmpty = lit≤ tt
-refusal-some StoredWord = lit≤ tt
-refusal-some Lens = lit≤ tt
-refusal-some Depth = lit≤ tt
-refusal-some DepthInside = lit≤ tt
 
 -- WHAT EACH CALL REPORTS
 -- an accepted call reports n marks, a refused one none

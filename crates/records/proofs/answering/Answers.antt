@@ -8,7 +8,7 @@ use Rattle.plate_model.specs.declared.state.Answer.{Answer}
 use Rattle.plate_model.specs.declared.state.Outcome.{Outcome}
 use Rattle.plate_model.specs.declared.state.Outcome.the-variants.{Accepted, Refused}
 use Rattle.plate_model.specs.Refusal.{outcomeNumber}
-use Rattle.plate_model.proofs.demands.Reports.{refusal-some}
+use Rattle.plate_model.proofs.checks.Rows.{refusal-some}
 use Rattle.records_model.specs.Text.{numbered, refusedWord, showText}
 use Rattle.records_model.specs.declared.record.Stop.the-variants.{Sizes, Cells}
 use Rattle.records_model.specs.Run.{answerText}
