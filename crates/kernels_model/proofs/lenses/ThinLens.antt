@@ -3,7 +3,6 @@ use mathlib.Core.Path.{_≡_, refl, ap, _∙_}
 use mathlib.Core.Bool.{Bool, true, false}
 use Prim.Native.Nat.{ℕ, zero, suc, _+_, _*_, _-_, _<_, _≤_, min}
 use native.Mathlib.Omega.{arith}
-use lib.Dec.{ltb, leb}
 use borrow.Author.Tests.{ltb-false, leb-false, le-ltb, le-leb, lt-leb}
 use Rattle.kernels_model.proofs.numbers.Products.{product-le}
 use Rattle.kernels_model.specs.Fixed.{depthTop, accepted, lensRefused, depthRefused}
@@ -46,14 +45,14 @@ passed false next e = (refl, e)
 pub lawful : (l : Lens) → lawfulLens l ≡ true → Lawful l
 unfolding lawfulLens
 lawful l e =
-    let q1 = passed (ltb (l .opening) 1) _ e in
-    let q2 = passed (ltb openingTop (l .opening)) _ (q1 .1) in
-    let q3 = passed (ltb (l .focal) 1) _ (q2 .1) in
-    let q4 = passed (ltb focalTop (l .focal)) _ (q3 .1) in
-    let q5 = passed (leb (l .focus) (l .focal)) _ (q4 .1) in
-    let q6 = passed (ltb focusTop (l .focus)) _ (q5 .1) in
-    let q7 = passed (ltb (l .pitch) 1) _ (q6 .1) in
-    let q8 = passed (ltb pitchTop (l .pitch)) true (q7 .1) in
+    let q1 = passed _ _ e in
+    let q2 = passed _ _ (q1 .1) in
+    let q3 = passed _ _ (q2 .1) in
+    let q4 = passed _ _ (q3 .1) in
+    let q5 = passed _ _ (q4 .1) in
+    let q6 = passed _ _ (q5 .1) in
+    let q7 = passed _ _ (q6 .1) in
+    let q8 = passed _ _ (q7 .1) in
     record {
       opening-some = ltb-false _ _ (q1 .0);
       opening-top = ltb-false _ _ (q2 .0);
