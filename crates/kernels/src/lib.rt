@@ -16,4 +16,4 @@ pub use kernels_model::mark::Outline;
 pub use kernels_model::shape::Shape;
 pub use kernels_model::shape::ShapeRead;
 pub use kernels_model::share::Share;
-pub use share::Table;
+pub use kernels_model::share::Table;

@@ -2,10 +2,10 @@
 use crate::shape::number;
 use crate::shape::top;
 use kernels_model::fixed::RADII;
-use kernels_model::fixed::TABLE_ROWS;
 use kernels_model::fixed::UNIT;
 use kernels_model::shape::Shape;
 use kernels_model::share::Share;
+use kernels_model::share::Table;
 ghost use mathlib.Core.Path.{_≡_};
 ghost use Prim.Native.Nat.{_≤_};
 ghost use Rattle.kernels_model.specs.Shape.{topOf};
@@ -17,9 +17,7 @@ const ROW_BITS: u64 = 32;
 
 const ROW_MASK: u64 = (1 << ROW_BITS) - 1;
 
-// For each shape one row for each radius, from radius 0 on, with share and remainder; 0 above the shape's top.
-pub type Table = [u64; TABLE_ROWS];
-
+// Each shape's rows one after the other.
 const SHARES: Table = [
     8388608 | 0 << ROW_BITS,
     932067 | 5 << ROW_BITS,

@@ -20,7 +20,7 @@ ghost use Prim.Native.Nat.{_≤_};
 ghost use lib.ListN.{length};
 ghost use mathlib.Core.Path.{_≡_};
 ghost use mathlib.Core.Bool.{true};
-ghost use Rattle.records_model.specs.Machine.{atEntry, atExit};
+ghost use Rattle.records_model.specs.Machine.{atEntry, atExit, buffers, zeroed};
 ghost use Rattle.lens_records.specs.Feeding.{FedTo, FedFront};
 
 // A call of advance, its text written: the machine, how many bytes were taken, and whether the write went well.
@@ -184,7 +184,7 @@ fn turn(
     }
 }
 
-// Reads while the run goes on.
+// Reads while the run goes on. It begins as the theorem from bytes to text does, with zeroed buffers of the paper's lengths.
 fn serve(
     planes: &mut Planes,
     pixels: &mut Pixels,
@@ -194,7 +194,9 @@ fn serve(
     mattes: &mut Mattes,
     input: &mut [u8],
     text: &mut Text,
-) -> Run {
+) -> Run
+    requires { ⌜ buffers (now planes) (now pixels) (now log) (now scratch) (now values) (now mattes) ≡ zeroed ⌝ }
+{
     let machine = records::machine::start();
     let mut run = Run {
         machine: machine,

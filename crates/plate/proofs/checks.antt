@@ -1,4 +1,4 @@
 -- What checks in a row say, what the code may count on when they accept, and lists scanned for a number that passes a test.
 pub mod Chains
-pub mod Counted
+pub mod Lengths
 pub mod Scans

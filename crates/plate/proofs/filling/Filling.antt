@@ -28,7 +28,7 @@ use Rattle.plate_model.specs.Calls.{left, answerOf, refused, listTo, filled, fi
 use Rattle.plate.specs.Filling.{Layer, ToFill, NoFill, readBy, layerRead, layerSize, pixelOf, pixelFrom, Ready, FilledTo, Refilled, fillLengths, inputsRead, layerOf}
 use Rattle.plate_model.proofs.checks.Rows.{and-then}
 use Rattle.plate_model.proofs.checks.Accepted.{layer-accepted}
-use Rattle.plate.proofs.checks.Counted.{fill-accepted}
+use Rattle.plate.proofs.checks.Lengths.{fill-accepted}
 use Rattle.plate.proofs.checks.Chains.{fill-before}
 use Rattle.plate_model.proofs.numbers.Lists.{length-listTo, getD-listTo, word-at}
 use Rattle.kernels_model.specs.Fixed.{depthTop}

@@ -19,7 +19,7 @@ use Rattle.plate_model.specs.Kept.{inReach, canvasFirst}
 use Rattle.plate_model.specs.Ready.{Changeable}
 use Rattle.plate.specs.Mending.{Given, GivenIn, CellIn, CellDone, MendReady, RowToMend, InRow, MendedWhere}
 use Rattle.plate_model.proofs.numbers.Extents.{place-within, row-of, column-is, row-is}
-use Rattle.plate.proofs.checks.Counted.{kept-accepted}
+use Rattle.plate.proofs.checks.Lengths.{kept-accepted}
 use Rattle.kernels_model.proofs.taps.ShapeNumbers.{reach-under}
 use Rattle.plate.proofs.mending.Gives.{gives-few}
 use Rattle.plate_model.proofs.mending.Reached.{near-reached, far-not-reached, row-not-reached}

@@ -21,7 +21,7 @@ use Rattle.plate_model.specs.Refusal.{showCheck}
 use Rattle.plate_model.specs.Calls.{zeros, listTo, stored, sumAt, shown, answerOf, showBy}
 use Rattle.plate.specs.Passes.{Picture, planesIn, slopeSums, downFrom, sumsEnd, matteAfter, SummedTo}
 use Rattle.plate.specs.Showing.{Image, lightPicture, BothIn, BothTo, BothSummed, RowShown, sumIn, ShownTo, TotalReady, ShowReady}
-use Rattle.plate.proofs.checks.Counted.{show-accepted}
+use Rattle.plate.proofs.checks.Lengths.{show-accepted}
 use Rattle.plate_model.proofs.numbers.Lists.{length-listTo, getD-listTo}
 
 -- ONE ROW
