@@ -3,11 +3,8 @@ use borrow.Author.Needs.{needs}
 use Rattle.lens_c.proofs.answer_out.Statement.{statement}
 use Rattle.lens_c.proofs.answer_out.Tie as tie
 
-number-requires : tie.Need-number-requires
-number-requires c κs = search needs
-
 returns : tie.Need-returns
 returns c = rw (c .number .ensures)
 
 pub answer-out-spec : {M : Type 1} → statement M
-answer-out-spec = tie.close (tie.spec number-requires returns)
+answer-out-spec = tie.close (tie.spec (λ c κs. search needs) returns)

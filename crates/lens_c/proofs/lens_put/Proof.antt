@@ -5,24 +5,6 @@ use borrow.Author.Needs.{needs}
 use Rattle.lens_c.proofs.lens_put.Statement.{statement}
 use Rattle.lens_c.proofs.lens_put.Tie as tie
 
-state-in-requires : tie.Need-state-in-requires
-state-in-requires c κs = search needs
-
-put-requires : tie.Need-put-requires
-put-requires c κs = search needs
-
-answer-out-requires : tie.Need-answer-out-requires
-answer-out-requires c κs = search needs
-
-same-length : tie.Need-same-length
-same-length c = search needs
-
-same-length-2 : tie.Need-same-length-2
-same-length-2 c = search needs
-
-same-length-3 : tie.Need-same-length-3
-same-length-3 c = search needs
-
 returns : tie.Need-returns
 returns c =
     rw (c .answer-out .ensures, ← c .before .before .before .before .before .before .before .before .before .before .before .state-in .ensures) (ap leftOut (c .before .before .before .before .before .before .before .put .ensures))
@@ -31,10 +13,10 @@ pub lens-put-spec : {M : Type 1} → statement M
 lens-put-spec =
     tie.close
     (tie.spec
-    state-in-requires
-    put-requires
-    answer-out-requires
-    same-length
-    same-length-2
-    same-length-3
+    (λ c κs. search needs)
+    (λ c κs. search needs)
+    (λ c κs. search needs)
+    (λ c. search needs)
+    (λ c. search needs)
+    (λ c. search needs)
     returns)

@@ -5,33 +5,6 @@ use borrow.Author.Needs.{needs}
 use Rattle.lens_c.proofs.lens_undo_kept.Statement.{statement}
 use Rattle.lens_c.proofs.lens_undo_kept.Tie as tie
 
-state-in-requires : tie.Need-state-in-requires
-state-in-requires c κs = search needs
-
-undo-kept-requires : tie.Need-undo-kept-requires
-undo-kept-requires c κs = search needs
-
-answer-out-requires : tie.Need-answer-out-requires
-answer-out-requires c κs = search needs
-
-same-length : tie.Need-same-length
-same-length c = search needs
-
-same-length-2 : tie.Need-same-length-2
-same-length-2 c = search needs
-
-same-length-3 : tie.Need-same-length-3
-same-length-3 c = search needs
-
-same-length-4 : tie.Need-same-length-4
-same-length-4 c = search needs
-
-same-length-5 : tie.Need-same-length-5
-same-length-5 c = search needs
-
-same-length-6 : tie.Need-same-length-6
-same-length-6 c = search needs
-
 returns : tie.Need-returns
 returns c =
     let called = c .before .before .before .before .before .before .before .before .before .before .before .before .before in
@@ -41,13 +14,13 @@ pub lens-undo-kept-spec : {M : Type 1} → statement M
 lens-undo-kept-spec =
     tie.close
     (tie.spec
-    state-in-requires
-    undo-kept-requires
-    answer-out-requires
-    same-length
-    same-length-2
-    same-length-3
-    same-length-4
-    same-length-5
-    same-length-6
+    (λ c κs. search needs)
+    (λ c κs. search needs)
+    (λ c κs. search needs)
+    (λ c. search needs)
+    (λ c. search needs)
+    (λ c. search needs)
+    (λ c. search needs)
+    (λ c. search needs)
+    (λ c. search needs)
     returns)

@@ -3,11 +3,8 @@ use borrow.Author.Needs.{needs}
 use Rattle.lens_c.proofs.totals_out.Statement.{statement}
 use Rattle.lens_c.proofs.totals_out.Tie as tie
 
-answer-out-requires : tie.Need-answer-out-requires
-answer-out-requires c κs = search needs
-
 returns : tie.Need-returns
 returns c = rw (c .answer-out .ensures)
 
 pub totals-out-spec : {M : Type 1} → statement M
-totals-out-spec = tie.close (tie.spec answer-out-requires returns)
+totals-out-spec = tie.close (tie.spec (λ c κs. search needs) returns)

@@ -34,18 +34,6 @@ loop-holds c = (search needs, fed-none _ _)
 returns : tie.Need-returns Inv-loop μ-loop
 returns c = λ e. true-not (sym e ∙ not-true _ (c .if1 .taken))
 
-sub-tell : tie.Need-sub-tell Inv-loop μ-loop
-sub-tell c = search needs
-
-part-tell-start : tie.Need-part-tell-start Inv-loop μ-loop
-part-tell-start c = search needs
-
-part-tell-end : tie.Need-part-tell-end Inv-loop μ-loop
-part-tell-end c = search needs
-
-tell-requires : tie.Need-tell-requires Inv-loop μ-loop
-tell-requires c κs = search needs
-
 add-at : tie.Need-add-at Inv-loop μ-loop
 add-at c = omega (arith, inside c .loop-test .taken, inside c .before .before .before .good)
 
@@ -80,10 +68,10 @@ part-spec =
     μ-loop
     loop-holds
     returns
-    sub-tell
-    part-tell-start
-    part-tell-end
-    tell-requires
+    (λ c. search needs)
+    (λ c. search needs)
+    (λ c. search needs)
+    (λ c κs. search needs)
     add-at
     loop-less
     loop-again

@@ -5,9 +5,6 @@ use Rattle.lens_records.proofs.feeding.Fronts.{call-fed}
 use Rattle.lens_records.proofs.tell.Statement.{statement}
 use Rattle.lens_records.proofs.tell.Tie as tie
 
-advance-requires : tie.Need-advance-requires
-advance-requires c κs = search needs
-
 write-requires : tie.Need-write-requires
 write-requires c κs = advanced-room _ _ _ _ (c .before .before .before .advance .ensures)
 
@@ -15,4 +12,4 @@ returns : tie.Need-returns
 returns c = call-fed _ _ _ _ (c .before .before .before .before .advance .ensures)
 
 pub tell-spec : {M : Type 1} → statement M
-tell-spec = tie.close (tie.spec advance-requires write-requires returns)
+tell-spec = tie.close (tie.spec (λ c κs. search needs) write-requires returns)

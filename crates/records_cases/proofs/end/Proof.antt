@@ -4,14 +4,8 @@ use borrow.Author.Needs.{needs}
 use Rattle.records_cases.proofs.end.Statement.{statement}
 use Rattle.records_cases.proofs.end.Tie as tie
 
-finish-requires : tie.Need-finish-requires
-finish-requires c κs = search needs
-
 write-requires : tie.Need-write-requires
 write-requires c κs = closing-room _ _ (c .before .before .finish .ensures)
 
-returns : tie.Need-returns
-returns c = search needs
-
 pub end-spec : {M : Type 1} → statement M
-end-spec = tie.close (tie.spec finish-requires write-requires returns)
+end-spec = tie.close (tie.spec (λ c κs. search needs) write-requires (λ c. search needs))

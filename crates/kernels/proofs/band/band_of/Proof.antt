@@ -22,20 +22,8 @@ own-known : (c : tie.After-box-tap)
     c .box-tap .result ≡ ownTap (a .s) (a .radius) (a .dy)
 own-known c = c .box-tap .ensures ∙ rw (c .before .before .before .boxes .ensures, c .before .height .ensures)
 
-top-requires : tie.Need-top-requires
-top-requires c κs = search needs
-
 returns : tie.Need-returns
 returns c = sym (band-above _ _ _ _ (omega (arith, c .if1 .taken, c .before .top .ensures)))
-
-boxes-requires : tie.Need-boxes-requires
-boxes-requires c κs = search needs
-
-row-radius-requires : tie.Need-row-radius-requires
-row-radius-requires c κs = search needs
-
-height-requires : tie.Need-height-requires
-height-requires c κs = search needs
 
 box-tap-requires : tie.Need-box-tap-requires
 box-tap-requires c κs =
@@ -65,9 +53,6 @@ span-of-requires c κs =
       low else,
       top-small (a .s),
     )
-
-in-middle-requires : tie.Need-in-middle-requires
-in-middle-requires c κs = search needs
 
 cast-t14 : tie.Need-cast-t14
 cast-t14 c =
@@ -103,14 +88,14 @@ pub band-of-spec : {M : Type 1} → statement M
 band-of-spec =
     tie.close
     (tie.spec
-    top-requires
+    (λ c κs. search needs)
     returns
-    boxes-requires
-    row-radius-requires
-    height-requires
+    (λ c κs. search needs)
+    (λ c κs. search needs)
+    (λ c κs. search needs)
     box-tap-requires
     span-of-requires
-    in-middle-requires
+    (λ c κs. search needs)
     cast-t14
     cast-t15
     returns-2)

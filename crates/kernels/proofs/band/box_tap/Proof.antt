@@ -46,38 +46,17 @@ returns-2 c =
     let near = rw (c .if2 .taken) at (c .before .if1 .left) in
     rw (c .if2 .taken) (sym (one-box _ _ ∙ within-yes _ _ 1 (omega arith)))
 
-mul-result : tie.Need-mul-result
-mul-result c = search needs
-
-add-result : tie.Need-add-result
-add-result c = search needs
-
 sub-result : tie.Need-sub-result
 sub-result c = omega (arith, in-two c)
 
 returns-3 : tie.Need-returns-3
 returns-3 c = rw (c .if3 .taken) (sym (two-boxes _ _))
 
-mul-e : tie.Need-mul-e
-mul-e c = search needs
-
-add-e : tie.Need-add-e
-add-e c = search needs
-
 sub-e : tie.Need-sub-e
 sub-e c = omega (arith, in-three c)
 
-less-requires : tie.Need-less-requires
-less-requires c κs = search needs
-
-add-result-2 : tie.Need-add-result-2
-add-result-2 c = search needs
-
 mul-result-2 : tie.Need-mul-result-2
 mul-result-2 c = omega (arith, thrice-fits (cells c) (cells c + 1) (omega arith) (omega arith))
-
-add-result-3 : tie.Need-add-result-3
-add-result-3 c = search needs
 
 mul-result-3 : tie.Need-mul-result-3
 mul-result-3 c = omega (arith, thrice-fits (c .less .result) (c .less .result + 1) (omega arith) (omega arith))
@@ -100,17 +79,17 @@ box-tap-spec =
     mul-if1
     returns
     returns-2
-    mul-result
-    add-result
+    (λ c. search needs)
+    (λ c. search needs)
     sub-result
     returns-3
-    mul-e
-    add-e
+    (λ c. search needs)
+    (λ c. search needs)
     sub-e
-    less-requires
-    add-result-2
+    (λ c κs. search needs)
+    (λ c. search needs)
     mul-result-2
-    add-result-3
+    (λ c. search needs)
     mul-result-3
     mul-result-4
     sub-result-2

@@ -6,9 +6,6 @@ use Rattle.kernels_model.specs.Band.{isLevel}
 use Rattle.kernels.proofs.band.is_level.Statement.{statement}
 use Rattle.kernels.proofs.band.is_level.Tie as tie
 
-boxes-requires : tie.Need-boxes-requires
-boxes-requires c κs = search needs
-
 returns : tie.Need-returns
 unfolding isLevel
 returns c = rw (ne-eqb _ 1 (rw (c .before .boxes .ensures) at (c .if1 .taken)))
@@ -18,4 +15,4 @@ unfolding isLevel
 returns-2 c = rw (eq-eqb _ 1 (sym (c .before .before .boxes .ensures) ∙ c .before .if1 .left))
 
 pub is-level-spec : {M : Type 1} → statement M
-is-level-spec = tie.close (tie.spec boxes-requires returns returns-2)
+is-level-spec = tie.close (tie.spec (λ c κs. search needs) returns returns-2)

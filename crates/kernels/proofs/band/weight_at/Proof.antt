@@ -50,23 +50,8 @@ taps-low c =
 returns : tie.Need-returns
 returns c = sym (band-out _ _ (c .if1 .taken))
 
-boxes-requires : tie.Need-boxes-requires
-boxes-requires c κs = search needs
-
-cast-worth : tie.Need-cast-worth
-cast-worth c = search needs
-
-cast-worth-2 : tie.Need-cast-worth-2
-cast-worth-2 c = search needs
-
 mul-worth : tie.Need-mul-worth
 mul-worth c = omega (arith, worth-low (c .before .before .before .before .before))
-
-in-middle-requires : tie.Need-in-middle-requires
-in-middle-requires c κs = search needs
-
-cast-result : tie.Need-cast-result
-cast-result c = search needs
 
 add-result : tie.Need-add-result
 add-result c = omega (arith, worth-low (start (c .before)), middle-low (c .before))
@@ -83,9 +68,6 @@ returns-2 c =
     ∙ omega (arith, ap (λ (n : ℕ). b .each * b .own * n) one)
     ∙ sym (within-yes (suc _) _ _ (else .if1 .left))
 
-cast-box-tap : tie.Need-cast-box-tap
-cast-box-tap c = search needs
-
 box-tap-requires : tie.Need-box-tap-requires
 box-tap-requires c κs =
     let s = start (c .before .before) in
@@ -94,9 +76,6 @@ box-tap-requires c κs =
 
 mul-result : tie.Need-mul-result
 mul-result c = omega (arith, taps-low c)
-
-cast-result-2 : tie.Need-cast-result-2
-cast-result-2 c = search needs
 
 add-result-2 : tie.Need-add-result-2
 add-result-2 c = omega (arith, taps-low c, middle-low (c .before .before .before))
@@ -118,17 +97,17 @@ weight-at-spec =
     tie.close
     (tie.spec
     returns
-    boxes-requires
-    cast-worth
-    cast-worth-2
+    (λ c κs. search needs)
+    (λ c. search needs)
+    (λ c. search needs)
     mul-worth
-    in-middle-requires
-    cast-result
+    (λ c κs. search needs)
+    (λ c. search needs)
     add-result
     returns-2
-    cast-box-tap
+    (λ c. search needs)
     box-tap-requires
     mul-result
-    cast-result-2
+    (λ c. search needs)
     add-result-2
     returns-3)

@@ -26,26 +26,11 @@ near c =
     (omega arith)
     (omega (arith, keeps (start c), c .apart .ensures))
 
-cast-scale : tie.Need-cast-scale
-cast-scale c = search needs
-
-mul-scale : tie.Need-mul-scale
-mul-scale c = search needs
-
-cast-scale-2 : tie.Need-cast-scale-2
-cast-scale-2 c = search needs
-
 mul-scale-2 : tie.Need-mul-scale-2
 mul-scale-2 c = omega (arith, far (c .before .before))
 
-cast-pitch : tie.Need-cast-pitch
-cast-pitch c = search needs
-
 sub-past : tie.Need-sub-past
 sub-past c = omega (arith, keeps (c .before .before .before .before))
-
-cast-past : tie.Need-cast-past
-cast-past c = search needs
 
 mul-rounded : tie.Need-mul-rounded
 mul-rounded c = omega (arith, far (c .before .before .before .before .before))
@@ -55,12 +40,6 @@ rounded-requires c κs = omega (arith, far (c .before .before .before .before .b
 
 returns : tie.Need-returns
 returns c = c .rounded .ensures ∙ sym (blur-far _ _ (c .before .if1 .taken))
-
-cast-apart : tie.Need-cast-apart
-cast-apart c = search needs
-
-apart-requires : tie.Need-apart-requires
-apart-requires c κs = search needs
 
 mul-rounded-2 : tie.Need-mul-rounded-2
 mul-rounded-2 c = omega (arith, near c)
@@ -83,18 +62,18 @@ pub blurred-spec : {M : Type 1} → statement M
 blurred-spec =
     tie.close
     (tie.spec
-    cast-scale
-    mul-scale
-    cast-scale-2
+    (λ c. search needs)
+    (λ c. search needs)
+    (λ c. search needs)
     mul-scale-2
-    cast-pitch
+    (λ c. search needs)
     sub-past
-    cast-past
+    (λ c. search needs)
     mul-rounded
     rounded-requires
     returns
-    cast-apart
-    apart-requires
+    (λ c. search needs)
+    (λ c κs. search needs)
     mul-rounded-2
     mul-rounded-3
     mul-rounded-4

@@ -14,9 +14,6 @@ use Rattle.kernels.proofs.lens.radius_from.Tie as tie
 lawful : (c : tie.Else1) → lawfulLens (c .before .before .args .l) ≡ true
 lawful c = sym (c .before .lawful-lens .ensures) ∙ not-false _ (c .if1 .left)
 
-lawful-lens-requires : tie.Need-lawful-lens-requires
-lawful-lens-requires c κs = search needs
-
 returns : tie.Need-returns
 unfolding radiusTold
 returns c = sym (no-lens _ _ _ (sym (c .before .lawful-lens .ensures) ∙ not-true _ (c .if1 .taken)))
@@ -27,9 +24,6 @@ returns-2 c = sym (no-depth _ _ _ (lawful (c .before)) (omega arith))
 
 blurred-requires : tie.Need-blurred-requires
 blurred-requires c κs = (lawful (c .before), omega arith)
-
-cast-t8 : tie.Need-cast-t8
-cast-t8 c = search needs
 
 returns-3 : tie.Need-returns-3
 unfolding radiusTold
@@ -46,4 +40,4 @@ returns-4 c =
 pub radius-from-spec : {M : Type 1} → statement M
 radius-from-spec =
     tie.close
-    (tie.spec lawful-lens-requires returns returns-2 blurred-requires cast-t8 returns-3 returns-4)
+    (tie.spec (λ c κs. search needs) returns returns-2 blurred-requires (λ c. search needs) returns-3 returns-4)

@@ -8,12 +8,6 @@ use borrow.Author.Needs.{needs}
 use Rattle.kernels.proofs.rounding.rounded.Statement.{statement}
 use Rattle.kernels.proofs.rounding.rounded.Tie as tie
 
-div-q : tie.Need-div-q
-div-q c = search needs
-
-rem-rest : tie.Need-rem-rest
-rem-rest c = search needs
-
 sub-if1 : tie.Need-sub-if1
 sub-if1 c = omega (arith, mod-lt (c .args .a) (c .pre))
 
@@ -31,4 +25,4 @@ returns-2 : tie.Need-returns-2
 returns-2 c = sym (nearest-up (c .before .args .a) (c .before .args .b) (c .before .pre) (omega arith))
 
 pub rounded-spec : {M : Type 1} → statement M
-rounded-spec = tie.close (tie.spec div-q rem-rest sub-if1 returns add-result returns-2)
+rounded-spec = tie.close (tie.spec (λ c. search needs) (λ c. search needs) sub-if1 returns add-result returns-2)

@@ -9,12 +9,6 @@ use borrow.Author.Needs.{needs}
 use Rattle.kernels.proofs.rounding.rounded_even.Statement.{statement}
 use Rattle.kernels.proofs.rounding.rounded_even.Tie as tie
 
-div-q : tie.Need-div-q
-div-q c = search needs
-
-rem-rest : tie.Need-rem-rest
-rem-rest c = search needs
-
 sub-if1 : tie.Need-sub-if1
 sub-if1 c = omega (arith, mod-lt (c .args .light) (c .pre))
 
@@ -35,4 +29,4 @@ returns-2 : tie.Need-returns-2
 returns-2 c = sym (even-down (c .before .args .light) (c .before .args .matte) (omega arith))
 
 pub rounded-even-spec : {M : Type 1} → statement M
-rounded-even-spec = tie.close (tie.spec div-q rem-rest sub-if1 add-if1 add-result returns returns-2)
+rounded-even-spec = tie.close (tie.spec (λ c. search needs) (λ c. search needs) sub-if1 add-if1 add-result returns returns-2)

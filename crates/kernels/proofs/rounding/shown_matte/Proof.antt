@@ -5,12 +5,6 @@ use borrow.Author.Needs.{needs}
 use Rattle.kernels.proofs.rounding.shown_matte.Statement.{statement}
 use Rattle.kernels.proofs.rounding.shown_matte.Tie as tie
 
-add-result : tie.Need-add-result
-add-result c = search needs
-
-cast-result : tie.Need-cast-result
-cast-result c = search needs
-
 returns : tie.Need-returns
 unfolding shownMatte nearest
 returns c = omega arith
@@ -20,4 +14,4 @@ unfolding shownMatte nearest
 returns-2 c = omega arith
 
 pub shown-matte-spec : {M : Type 1} → statement M
-shown-matte-spec = tie.close (tie.spec add-result cast-result returns returns-2)
+shown-matte-spec = tie.close (tie.spec (λ c. search needs) (λ c. search needs) returns returns-2)

@@ -9,15 +9,6 @@ use Rattle.kernels.proofs.rounding.shown_value.Tie as tie
 returns : tie.Need-returns
 returns c = sym (value-none _ _ (c .if1 .taken))
 
-rounded-even-requires : tie.Need-rounded-even-requires
-rounded-even-requires c κs = search needs
-
-cast-if2 : tie.Need-cast-if2
-cast-if2 c = search needs
-
-cast-result : tie.Need-cast-result
-cast-result c = search needs
-
 returns-2 : tie.Need-returns-2
 returns-2 c = rw (value-some _ _ (c .before .before .if1 .left)) (omega (arith, c .before .rounded-even .ensures))
 
@@ -25,4 +16,4 @@ returns-3 : tie.Need-returns-3
 returns-3 c = rw (value-some _ _ (c .before .before .if1 .left)) (omega (arith, c .before .rounded-even .ensures))
 
 pub shown-value-spec : {M : Type 1} → statement M
-shown-value-spec = tie.close (tie.spec returns rounded-even-requires cast-if2 cast-result returns-2 returns-3)
+shown-value-spec = tie.close (tie.spec returns (λ c κs. search needs) (λ c. search needs) (λ c. search needs) returns-2 returns-3)

@@ -5,9 +5,6 @@ use Rattle.kernels_model.proofs.taps.ShapeNumbers.{count-few}
 use Rattle.kernels.proofs.shape.mark_count.Statement.{statement}
 use Rattle.kernels.proofs.shape.mark_count.Tie as tie
 
-tap-marks-requires : tie.Need-tap-marks-requires
-tap-marks-requires c κs = search needs
-
 add-result : tie.Need-add-result
 add-result c = omega (arith, count-few (c .before .args .s), c .tap-marks .ensures)
 
@@ -15,4 +12,4 @@ returns : tie.Need-returns
 returns c = rw (c .tap-marks .ensures)
 
 pub mark-count-spec : {M : Type 1} → statement M
-mark-count-spec = tie.close (tie.spec tap-marks-requires add-result returns)
+mark-count-spec = tie.close (tie.spec (λ c κs. search needs) add-result returns)

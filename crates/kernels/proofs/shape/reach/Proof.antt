@@ -6,9 +6,6 @@ use borrow.Author.Needs.{needs}
 use Rattle.kernels.proofs.shape.reach.Statement.{statement}
 use Rattle.kernels.proofs.shape.reach.Tie as tie
 
-boxes-requires : tie.Need-boxes-requires
-boxes-requires c κs = search needs
-
 mul-result : tie.Need-mul-result
 mul-result c =
     omega (
@@ -22,4 +19,4 @@ returns : tie.Need-returns
 returns c = rw (c .boxes .ensures)
 
 pub reach-spec : {M : Type 1} → statement M
-reach-spec = tie.close (tie.spec boxes-requires mul-result returns)
+reach-spec = tie.close (tie.spec (λ c κs. search needs) mul-result returns)

@@ -5,12 +5,6 @@ use borrow.Author.Needs.{needs}
 use Rattle.kernels.proofs.shape.top_under.Statement.{statement}
 use Rattle.kernels.proofs.shape.top_under.Tie as tie
 
-top-requires : tie.Need-top-requires
-top-requires c κs = search needs
-
-boxes-requires : tie.Need-boxes-requires
-boxes-requires c κs = search needs
-
 div-within : tie.Need-div-within
 div-within c = omega (arith, boxes-some (c .before .before .args .s), c .boxes .ensures)
 
@@ -29,4 +23,4 @@ returns-2 c = rw (← c .before .boxes .ensures, ← c .before .before .top .ens
 pub top-under-spec : {M : Type 1} → statement M
 top-under-spec =
     tie.close
-    (tie.spec top-requires boxes-requires div-within cast-result returns cast-result-2 returns-2)
+    (tie.spec (λ c κs. search needs) (λ c κs. search needs) div-within cast-result returns cast-result-2 returns-2)

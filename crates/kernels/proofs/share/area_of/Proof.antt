@@ -26,29 +26,14 @@ tent-side c = omega (arith, rw (c .enum-told2 .given .1) at (c .before .before .
 triple-side : (c : tie.After-enum-told3) → side (c .before .before) ≤ 7
 triple-side c = omega (arith, rw (c .enum-told3 .given .1) at (c .before .before .pre))
 
-mul-side : tie.Need-mul-side
-mul-side c = search needs
-
-add-side : tie.Need-add-side
-add-side c = search needs
-
-enum-told : tie.Need-enum-told
-enum-told c = search needs
-
 mul-result : tie.Need-mul-result
 mul-result c = product-fits _ _ (omega arith) (omega arith)
-
-enum-told-2 : tie.Need-enum-told-2
-enum-told-2 c = search needs
 
 mul-axis : tie.Need-mul-axis
 mul-axis c = product-fits _ _ (omega arith) (omega arith)
 
 mul-result-2 : tie.Need-mul-result-2
 mul-result-2 c = let h = product-le _ _ 17 17 (tent-side c) (tent-side c) in product-fits _ _ (omega arith) (omega arith)
-
-enum-told-3 : tie.Need-enum-told-3
-enum-told-3 c = search needs
 
 mul-axis-2 : tie.Need-mul-axis-2
 mul-axis-2 c = product-fits _ _ (omega arith) (omega arith)
@@ -61,29 +46,11 @@ mul-result-3 c =
     let h = product-le _ _ (7 * 7) 7 (product-le _ _ 7 7 (triple-side c) (triple-side c)) (triple-side c) in
     product-fits _ _ (omega arith) (omega arith)
 
-enum-told-4 : tie.Need-enum-told-4
-enum-told-4 c = search needs
-
-mul-result-4 : tie.Need-mul-result-4
-mul-result-4 c = search needs
-
 mul-result-5 : tie.Need-mul-result-5
 mul-result-5 c = product-fits _ _ (omega arith) (omega arith)
 
 add-result : tie.Need-add-result
 add-result c = sum-fits _ _ _ (omega arith) (omega arith) (omega arith)
-
-enum-told-5 : tie.Need-enum-told-5
-enum-told-5 c = search needs
-
-mul-result-6 : tie.Need-mul-result-6
-mul-result-6 c = search needs
-
-mul-result-7 : tie.Need-mul-result-7
-mul-result-7 c = search needs
-
-sub-result : tie.Need-sub-result
-sub-result c = search needs
 
 mul-result-8 : tie.Need-mul-result-8
 mul-result-8 c = product-fits _ _ (omega arith) (omega arith)
@@ -91,26 +58,8 @@ mul-result-8 c = product-fits _ _ (omega arith) (omega arith)
 add-result-2 : tie.Need-add-result-2
 add-result-2 c = sum-fits _ _ _ (omega arith) (omega arith) (omega arith)
 
-enum-told-6 : tie.Need-enum-told-6
-enum-told-6 c = search needs
-
-mul-result-9 : tie.Need-mul-result-9
-mul-result-9 c = search needs
-
-add-result-3 : tie.Need-add-result-3
-add-result-3 c = search needs
-
 mul-result-10 : tie.Need-mul-result-10
 mul-result-10 c = product-fits _ _ (omega arith) (omega arith)
-
-sub-result-2 : tie.Need-sub-result-2
-sub-result-2 c = search needs
-
-mul-result-11 : tie.Need-mul-result-11
-mul-result-11 c = search needs
-
-add-result-4 : tie.Need-add-result-4
-add-result-4 c = search needs
 
 mul-result-12 : tie.Need-mul-result-12
 mul-result-12 c = product-fits _ _ (omega arith) (omega arith)
@@ -146,34 +95,34 @@ pub area-of-spec : {M : Type 1} → statement M
 area-of-spec =
     tie.close
     (tie.spec
-    mul-side
-    add-side
-    enum-told
+    (λ c. search needs)
+    (λ c. search needs)
+    (λ c. search needs)
     mul-result
-    enum-told-2
+    (λ c. search needs)
     mul-axis
     mul-result-2
-    enum-told-3
+    (λ c. search needs)
     mul-axis-2
     mul-axis-3
     mul-result-3
-    enum-told-4
-    mul-result-4
+    (λ c. search needs)
+    (λ c. search needs)
     mul-result-5
     add-result
-    enum-told-5
-    mul-result-6
-    mul-result-7
-    sub-result
+    (λ c. search needs)
+    (λ c. search needs)
+    (λ c. search needs)
+    (λ c. search needs)
     mul-result-8
     add-result-2
-    enum-told-6
-    mul-result-9
-    add-result-3
+    (λ c. search needs)
+    (λ c. search needs)
+    (λ c. search needs)
     mul-result-10
-    sub-result-2
-    mul-result-11
-    add-result-4
+    (λ c. search needs)
+    (λ c. search needs)
+    (λ c. search needs)
     mul-result-12
     add-result-5
     returns

@@ -24,21 +24,6 @@ row c =
 masked : (row : ℕ) → shareFrom (bitAnd row 4294967295) (bitAnd (row / 2 ^ 32) 4294967295) ≡ shareIn row
 masked row = rw (and-mask row 32, and-mask (row / 2 ^ 32) 32)
 
-number-requires : tie.Need-number-requires
-number-requires c κs = search needs
-
-cast-place : tie.Need-cast-place
-cast-place c = search needs
-
-mul-place : tie.Need-mul-place
-mul-place c = search needs
-
-add-place : tie.Need-add-place
-add-place c = search needs
-
-mul-row : tie.Need-mul-row
-mul-row c = search needs
-
 element-copy-out-row : tie.Need-element-copy-out-row
 element-copy-out-row c = omega (arith, number-le (c .before .before .args .s))
 
@@ -60,11 +45,11 @@ pub share-in-spec : {M : Type 1} → statement M
 share-in-spec =
     tie.close
     (tie.spec
-    number-requires
-    cast-place
-    mul-place
-    add-place
-    mul-row
+    (λ c κs. search needs)
+    (λ c. search needs)
+    (λ c. search needs)
+    (λ c. search needs)
+    (λ c. search needs)
     element-copy-out-row
     cast-t16
     cast-t19

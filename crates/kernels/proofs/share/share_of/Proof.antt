@@ -9,14 +9,8 @@ use borrow.Author.Needs.{needs}
 use Rattle.kernels.proofs.share.share_of.Statement.{statement}
 use Rattle.kernels.proofs.share.share_of.Tie as tie
 
-top-requires : tie.Need-top-requires
-top-requires c κs = search needs
-
 returns : tie.Need-returns
 returns c = sym (parts-above _ _ (omega arith))
-
-area-of-requires : tie.Need-area-of-requires
-area-of-requires c κs = search needs
 
 div-t7 : tie.Need-div-t7
 div-t7 c = rw (c .area-of .ensures) (area-some _ _)
@@ -29,4 +23,4 @@ unfolding shareFor restFor
 returns-2 c = rw (c .area-of .ensures, mod-eq-sub-div-mul) (sym (parts-under _ _ (omega arith)))
 
 pub share-of-spec : {M : Type 1} → statement M
-share-of-spec = tie.close (tie.spec top-requires returns area-of-requires div-t7 rem-t8 returns-2)
+share-of-spec = tie.close (tie.spec (λ c κs. search needs) returns (λ c κs. search needs) div-t7 rem-t8 returns-2)

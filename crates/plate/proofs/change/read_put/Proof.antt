@@ -51,20 +51,11 @@ read c = sym (c .before .before .unpack .ensures) ∙ c .old .given .1
 abbrev stored : tie.After-shape-of → tie.After-old
 stored c = c .before .before
 
-check-put-requires : tie.Need-check-put-requires
-check-put-requires c κs = search needs
-
-enum-known-check : tie.Need-enum-known-check
-enum-known-check c = search needs
-
 returns : tie.Need-returns
 unfolding putRead putReadBy
 returns c =
     let found = c .before in
     rw (← found .before .before .check-put .ensures, found .check .given .1)
-
-enum-told : tie.Need-enum-told
-enum-told c = search needs
 
 mul-place : tie.Need-mul-place
 mul-place c = let told = c in omega (arith, asked told .place-in, plate told .lawful .places-top)
@@ -78,29 +69,11 @@ mul-unpack c = let told = c in omega (arith, asked told .place-in, plate told .l
 shared-slice-read-unpack : tie.Need-shared-slice-read-unpack
 shared-slice-read-unpack c = let told = c .before in omega (arith, asked told .place-in, plate told .lent .pixels-are)
 
-unpack-requires : tie.Need-unpack-requires
-unpack-requires c κs = search needs
-
-enum-known-old : tie.Need-enum-known-old
-enum-known-old c = search needs
-
-enum-told-2 : tie.Need-enum-told-2
-enum-told-2 c = search needs
-
 returns-2 : tie.Need-returns-2
 unfolding putRead putReadBy putOver
 returns-2 c =
     let unpacked = c .before .before in
     rw (checked (passed unpacked), ← unpacked .unpack .ensures, c .enum-told2 .given .1)
-
-shape-of-requires : tie.Need-shape-of-requires
-shape-of-requires c κs = search needs
-
-enum-known-shape : tie.Need-enum-known-shape
-enum-known-shape c = search needs
-
-enum-told-3 : tie.Need-enum-told-3
-enum-told-3 c = search needs
 
 returns-3 : tie.Need-returns-3
 returns-3 c =
@@ -124,20 +97,20 @@ pub read-put-spec : {M : Type 1} → statement M
 read-put-spec =
     tie.close
     (tie.spec
-    check-put-requires
-    enum-known-check
+    (λ c κs. search needs)
+    (λ c. search needs)
     returns
-    enum-told
+    (λ c. search needs)
     mul-place
     add-place
     mul-unpack
     shared-slice-read-unpack
-    unpack-requires
-    enum-known-old
-    enum-told-2
+    (λ c κs. search needs)
+    (λ c. search needs)
+    (λ c. search needs)
     returns-2
-    shape-of-requires
-    enum-known-shape
-    enum-told-3
+    (λ c κs. search needs)
+    (λ c. search needs)
+    (λ c. search needs)
     returns-3
     returns-4)

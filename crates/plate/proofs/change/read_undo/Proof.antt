@@ -64,20 +64,11 @@ read : (c : tie.After-old)
     readWord (a .state .size .reach) (getD (now (a .pixels)) (entry .entry .given .0 .0 .place) 0) ≡ Whole (c .old .given .0 .0)
 read c = sym (c .before .before .unpack .ensures) ∙ c .old .given .1
 
-check-undo-requires : tie.Need-check-undo-requires
-check-undo-requires c κs = search needs
-
-enum-known-check : tie.Need-enum-known-check
-enum-known-check c = search needs
-
 returns : tie.Need-returns
 unfolding undoRead undoReadBy
 returns c =
     let found = c .before in
     rw (← found .before .before .check-undo .ensures, found .check .given .1)
-
-enum-told : tie.Need-enum-told
-enum-told c = search needs
 
 sub-last : tie.Need-sub-last
 sub-last c = some (c .before)
@@ -91,12 +82,6 @@ shared-slice-read-word c = let told = c .before .before in omega (arith, some to
 
 unpack-entry-requires : tie.Need-unpack-entry-requires
 unpack-entry-requires c κs = plate (c .before .before) .lawful
-
-enum-known-entry : tie.Need-enum-known-entry
-enum-known-entry c = search needs
-
-enum-told-2 : tie.Need-enum-told-2
-enum-told-2 c = search needs
 
 returns-2 : tie.Need-returns-2
 unfolding undoRead undoReadBy undoEntry
@@ -113,15 +98,6 @@ shared-slice-read-unpack : tie.Need-shared-slice-read-unpack
 shared-slice-read-unpack c =
     let entry = c .before .before in
     omega (arith, inside entry, plate (passed (entry .before .before)) .lent .pixels-are)
-
-unpack-requires : tie.Need-unpack-requires
-unpack-requires c κs = search needs
-
-enum-known-old : tie.Need-enum-known-old
-enum-known-old c = search needs
-
-enum-told-3 : tie.Need-enum-told-3
-enum-told-3 c = search needs
 
 returns-3 : tie.Need-returns-3
 unfolding undoRead undoReadBy undoEntry undoOver
@@ -153,22 +129,22 @@ pub read-undo-spec : {M : Type 1} → statement M
 read-undo-spec =
     tie.close
     (tie.spec
-    check-undo-requires
-    enum-known-check
+    (λ c κs. search needs)
+    (λ c. search needs)
     returns
-    enum-told
+    (λ c. search needs)
     sub-last
     mul-word
     shared-slice-read-word
     unpack-entry-requires
-    enum-known-entry
-    enum-told-2
+    (λ c. search needs)
+    (λ c. search needs)
     returns-2
     mul-unpack
     shared-slice-read-unpack
-    unpack-requires
-    enum-known-old
-    enum-told-3
+    (λ c κs. search needs)
+    (λ c. search needs)
+    (λ c. search needs)
     returns-3
     rem-x
     div-y

@@ -27,21 +27,9 @@ returns-3 : tie.Need-returns-3
 unfolding askCheck placeCheck shapeCheck radiusCheck refuseIf
 returns-3 c = search tests
 
-shape-of-requires : tie.Need-shape-of-requires
-shape-of-requires c κs = search needs
-
-enum-known-known : tie.Need-enum-known-known
-enum-known-known c = search needs
-
-enum-told : tie.Need-enum-told
-enum-told c = search needs
-
 returns-4 : tie.Need-returns-4
 unfolding askCheck placeCheck shapeCheck radiusCheck refuseIf
 returns-4 c = rw (← shape-read _ _ (c .before .before .shape-of .ensures), c .enum-told .given .1) (search tests)
-
-top-under-requires : tie.Need-top-under-requires
-top-under-requires c κs = search needs
 
 returns-5 : tie.Need-returns-5
 unfolding askCheck placeCheck shapeCheck radiusCheck refuseIf
@@ -68,11 +56,11 @@ check-ask-spec =
     returns
     returns-2
     returns-3
-    shape-of-requires
-    enum-known-known
-    enum-told
+    (λ c κs. search needs)
+    (λ c. search needs)
+    (λ c. search needs)
     returns-4
-    top-under-requires
+    (λ c κs. search needs)
     returns-5
     returns-6
     returns-7)

@@ -28,15 +28,6 @@ past c next =
       c .enum-told3 .given .1,
     )
 
-check-open-requires : tie.Need-check-open-requires
-check-open-requires c κs = search needs
-
-enum-told : tie.Need-enum-told
-enum-told c = search needs
-
-enum-told-2 : tie.Need-enum-told-2
-enum-told-2 c = search needs
-
 returns : tie.Need-returns
 unfolding fillLengths
 returns c = rw (open-before, ← c .before .before .check-open .ensures, c .enum-told2 .given .1)
@@ -45,12 +36,6 @@ check-inputs-requires : tie.Need-check-inputs-requires
 unfolding openCheck
 check-inputs-requires c κs =
     sizes-passed _ _ (sym (c .before .before .check-open .ensures) ∙ c .enum-told .given .1) .0
-
-enum-told-3 : tie.Need-enum-told-3
-enum-told-3 c = search needs
-
-enum-told-4 : tie.Need-enum-told-4
-enum-told-4 c = search needs
 
 returns-2 : tie.Need-returns-2
 unfolding fillLengths
@@ -77,13 +62,13 @@ pub check-fill-spec : {M : Type 1} → statement M
 check-fill-spec =
     tie.close
     (tie.spec
-    check-open-requires
-    enum-told
-    enum-told-2
+    (λ c κs. search needs)
+    (λ c. search needs)
+    (λ c. search needs)
     returns
     check-inputs-requires
-    enum-told-3
-    enum-told-4
+    (λ c. search needs)
+    (λ c. search needs)
     returns-2
     returns-3
     returns-4)

@@ -19,15 +19,6 @@ start c = c .before .before .before
 lawful : (c : tie.After-enum-told) → LawfulSize (start c .args .size)
 lawful c = sizes-passed _ Accepted (sym (c .before .before .check-sizes .ensures) ∙ c .enum-told .given .1) .0
 
-check-sizes-requires : tie.Need-check-sizes-requires
-check-sizes-requires c κs = search needs
-
-enum-told : tie.Need-enum-told
-enum-told c = search needs
-
-enum-told-2 : tie.Need-enum-told-2
-enum-told-2 c = search needs
-
 returns : tie.Need-returns
 unfolding keptCheck
 returns c =
@@ -72,9 +63,9 @@ pub check-kept-spec : {M : Type 1} → statement M
 check-kept-spec =
     tie.close
     (tie.spec
-    check-sizes-requires
-    enum-told
-    enum-told-2
+    (λ c κs. search needs)
+    (λ c. search needs)
+    (λ c. search needs)
     returns
     mul-places
     mul-if1

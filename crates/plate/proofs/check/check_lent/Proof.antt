@@ -17,9 +17,6 @@ cells c = ap (λ (f : Frame). f .padded) (c .frame-of .ensures)
 all : (c : tie.After-frame-of) → c .frame-of .result .places ≡ places (c .before .args .size)
 all c = ap (λ (f : Frame). f .places) (c .frame-of .ensures)
 
-frame-of-requires : tie.Need-frame-of-requires
-frame-of-requires c κs = search needs
-
 mul-if1 : tie.Need-mul-if1
 mul-if1 c =
     let framed = c in
@@ -46,4 +43,4 @@ returns-4 c =
 
 pub check-lent-spec : {M : Type 1} → statement M
 check-lent-spec =
-    tie.close (tie.spec frame-of-requires mul-if1 returns returns-2 returns-3 returns-4)
+    tie.close (tie.spec (λ c κs. search needs) mul-if1 returns returns-2 returns-3 returns-4)

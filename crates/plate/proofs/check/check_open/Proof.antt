@@ -9,15 +9,6 @@ use Rattle.plate.proofs.check.check_open.Statement.{statement}
 use Rattle.plate.proofs.check.check_open.Tie as tie
 use Rattle.plate_model.specs.Lent.{sized}
 
-check-sizes-requires : tie.Need-check-sizes-requires
-check-sizes-requires c κs = search needs
-
-enum-told : tie.Need-enum-told
-enum-told c = search needs
-
-enum-told-2 : tie.Need-enum-told-2
-enum-told-2 c = search needs
-
 returns : tie.Need-returns
 unfolding openCheck
 returns c =
@@ -42,4 +33,4 @@ returns-2 c =
 pub check-open-spec : {M : Type 1} → statement M
 check-open-spec =
     tie.close
-    (tie.spec check-sizes-requires enum-told enum-told-2 returns check-lent-requires returns-2)
+    (tie.spec (λ c κs. search needs) (λ c. search needs) (λ c. search needs) returns check-lent-requires returns-2)

@@ -6,15 +6,6 @@ use Rattle.plate_model.proofs.checks.Conditions.{tests}
 use Rattle.plate.proofs.check.check_plate.Statement.{statement}
 use Rattle.plate.proofs.check.check_plate.Tie as tie
 
-check-open-requires : tie.Need-check-open-requires
-check-open-requires c κs = search needs
-
-enum-told : tie.Need-enum-told
-enum-told c = search needs
-
-enum-told-2 : tie.Need-enum-told-2
-enum-told-2 c = search needs
-
 returns : tie.Need-returns
 unfolding plateCheck
 returns c = rw (open-before, ← c .before .before .check-open .ensures, c .enum-told2 .given .1)
@@ -33,4 +24,4 @@ returns-3 c =
 
 pub check-plate-spec : {M : Type 1} → statement M
 check-plate-spec =
-    tie.close (tie.spec check-open-requires enum-told enum-told-2 returns returns-2 returns-3)
+    tie.close (tie.spec (λ c κs. search needs) (λ c. search needs) (λ c. search needs) returns returns-2 returns-3)

@@ -5,21 +5,9 @@ use Rattle.plate.proofs.checks.Chains.{plate-before}
 use Rattle.plate.proofs.check.check_put.Statement.{statement}
 use Rattle.plate.proofs.check.check_put.Tie as tie
 
-check-plate-requires : tie.Need-check-plate-requires
-check-plate-requires c κs = search needs
-
-enum-told : tie.Need-enum-told
-enum-told c = search needs
-
-enum-told-2 : tie.Need-enum-told-2
-enum-told-2 c = search needs
-
 returns : tie.Need-returns
 unfolding putCheck
 returns c = rw (plate-before, ← c .before .before .check-plate .ensures, c .enum-told2 .given .1)
-
-check-ask-requires : tie.Need-check-ask-requires
-check-ask-requires c κs = search needs
 
 returns-2 : tie.Need-returns-2
 unfolding putCheck
@@ -30,4 +18,4 @@ returns-2 c =
 pub check-put-spec : {M : Type 1} → statement M
 check-put-spec =
     tie.close
-    (tie.spec check-plate-requires enum-told enum-told-2 returns check-ask-requires returns-2)
+    (tie.spec (λ c κs. search needs) (λ c. search needs) (λ c. search needs) returns (λ c κs. search needs) returns-2)

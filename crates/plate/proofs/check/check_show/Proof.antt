@@ -18,15 +18,6 @@ passed : (c : tie.After-enum-told)
     → let a = start (c .before .before) .args in totalCheck (a .state .size) (a .planes) (a .scratch) ≡ Accepted
 passed c = sym (c .before .before .check-total .ensures) ∙ c .enum-told .given .1
 
-check-total-requires : tie.Need-check-total-requires
-check-total-requires c κs = search needs
-
-enum-told : tie.Need-enum-told
-enum-told c = search needs
-
-enum-told-2 : tie.Need-enum-told-2
-enum-told-2 c = search needs
-
 returns : tie.Need-returns
 unfolding showCheck viewsCheck
 returns c =
@@ -65,9 +56,9 @@ pub check-show-spec : {M : Type 1} → statement M
 check-show-spec =
     tie.close
     (tie.spec
-    check-total-requires
-    enum-told
-    enum-told-2
+    (λ c κs. search needs)
+    (λ c. search needs)
+    (λ c. search needs)
     returns
     mul-places
     returns-2

@@ -19,15 +19,6 @@ start c = c .before .before .before .before
 lawful : (c : tie.After-enum-told) → LawfulSize (start c .args .state .size)
 lawful c = sizes-passed _ Accepted (sym (c .before .before .check-sizes .ensures) ∙ c .enum-told .given .1) .0
 
-check-sizes-requires : tie.Need-check-sizes-requires
-check-sizes-requires c κs = search needs
-
-enum-told : tie.Need-enum-told
-enum-told c = search needs
-
-enum-told-2 : tie.Need-enum-told-2
-enum-told-2 c = search needs
-
 returns : tie.Need-returns
 unfolding showKeptCheck
 returns c =
@@ -50,9 +41,6 @@ returns-2 c =
     let told = c .before .before in
     rw (sizes-pass (start told .args .state .size) _ (lawful told)) (search tests)
 
-check-show-requires : tie.Need-check-show-requires
-check-show-requires c κs = search needs
-
 returns-3 : tie.Need-returns-3
 unfolding showKeptCheck
 returns-3 c =
@@ -63,12 +51,12 @@ pub check-show-kept-spec : {M : Type 1} → statement M
 check-show-kept-spec =
     tie.close
     (tie.spec
-    check-sizes-requires
-    enum-told
-    enum-told-2
+    (λ c κs. search needs)
+    (λ c. search needs)
+    (λ c. search needs)
     returns
     mul-places
     mul-if1
     returns-2
-    check-show-requires
+    (λ c κs. search needs)
     returns-3)

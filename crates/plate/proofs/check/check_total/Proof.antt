@@ -25,15 +25,6 @@ start c = c .before .before .before .before
 cells : (c : tie.After-frame-of) → c .frame-of .result .padded ≡ padded (start c .args .size)
 cells c = ap (λ (f : Frame). f .padded) (c .frame-of .ensures)
 
-check-sizes-requires : tie.Need-check-sizes-requires
-check-sizes-requires c κs = search needs
-
-enum-told : tie.Need-enum-told
-enum-told c = search needs
-
-enum-told-2 : tie.Need-enum-told-2
-enum-told-2 c = search needs
-
 returns : tie.Need-returns
 unfolding totalCheck
 returns c =
@@ -52,9 +43,6 @@ returns-2 c =
     let framed = c .before in
     rw (sizes-pass (start framed .args .size) _ (lawful (framed .before)), ← cells framed) (search tests)
 
-mul-if2 : tie.Need-mul-if2
-mul-if2 c = search needs
-
 returns-3 : tie.Need-returns-3
 unfolding totalCheck refuseIf
 returns-3 c =
@@ -71,13 +59,13 @@ pub check-total-spec : {M : Type 1} → statement M
 check-total-spec =
     tie.close
     (tie.spec
-    check-sizes-requires
-    enum-told
-    enum-told-2
+    (λ c κs. search needs)
+    (λ c. search needs)
+    (λ c. search needs)
     returns
     frame-of-requires
     mul-if1
     returns-2
-    mul-if2
+    (λ c. search needs)
     returns-3
     returns-4)

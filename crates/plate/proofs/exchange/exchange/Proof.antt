@@ -25,12 +25,6 @@ mul-pixels c = let s = start (moved c) in omega (arith, s .pre .1, s .good)
 slice-write-pixels : tie.Need-slice-write-pixels
 slice-write-pixels c = start (moved c) .pre .1
 
-mark-count-requires : tie.Need-mark-count-requires
-mark-count-requires c κs = search needs
-
-mark-count-requires-2 : tie.Need-mark-count-requires-2
-mark-count-requires-2 c κs = search needs
-
 add-result : tie.Need-add-result
 add-result c =
     let change = start (moved (c .before .before)) .args .change in
@@ -41,12 +35,6 @@ add-result c =
       c .before .mark-count .ensures,
       c .mark-count2 .ensures,
     )
-
-same-length : tie.Need-same-length
-same-length c = search needs
-
-same-length-2 : tie.Need-same-length-2
-same-length-2 c = search needs
 
 returns : tie.Need-returns
 returns c =
@@ -66,9 +54,9 @@ exchange-spec =
     pack-requires
     mul-pixels
     slice-write-pixels
-    mark-count-requires
-    mark-count-requires-2
+    (λ c κs. search needs)
+    (λ c κs. search needs)
     add-result
-    same-length
-    same-length-2
+    (λ c. search needs)
+    (λ c. search needs)
     returns)

@@ -17,12 +17,6 @@ placed c =
 frame-of-requires : tie.Need-frame-of-requires
 frame-of-requires c κs = c .before .pre .lawful
 
-share-of-requires : tie.Need-share-of-requires
-share-of-requires c κs = search needs
-
-share-of-requires-2 : tie.Need-share-of-requires-2
-share-of-requires-2 c κs = search needs
-
 -- what holds of either pixel is at hand for both calls: which of them a call is to have, only what is laid decides
 take-pixel-requires : tie.Need-take-pixel-requires
 take-pixel-requires c κs =
@@ -58,9 +52,6 @@ lay-pixel-requires c κs =
       share-is = search needs;
     }
 
-same-length : tie.Need-same-length
-same-length c = search needs
-
 returns : tie.Need-returns
 unfolding exchanged
 returns c =
@@ -75,9 +66,9 @@ exchange-marks-spec =
     tie.close
     (tie.spec
     frame-of-requires
-    share-of-requires
-    share-of-requires-2
+    (λ c κs. search needs)
+    (λ c κs. search needs)
     take-pixel-requires
     lay-pixel-requires
-    same-length
+    (λ c. search needs)
     returns)

@@ -23,32 +23,11 @@ reads : (c : tie.After-read-layer)
     c .read-layer .result ≡ layerRead (s .args .state) (s .args .lens) (s .args .shape) (given s) (sizedAs (held s))
 reads c = c .read-layer .ensures (entry c .args .opacities .now) refl
 
-read-layer-requires : tie.Need-read-layer-requires
-read-layer-requires c κs = search needs
-
-enum-known-layer : tie.Need-enum-known-layer
-enum-known-layer c = search needs
-
 refill-requires : tie.Need-refill-requires
 refill-requires c κs =
     let found = c .before .before .before .before in
     let read = found .before .before in
     layer-ready _ _ _ _ (held (entry read)) _ (sym (found .layer .given .1) ∙ reads read)
-
-enum-known-why : tie.Need-enum-known-why
-enum-known-why c = search needs
-
-refused-requires : tie.Need-refused-requires
-refused-requires c κs = search needs
-
-same-length : tie.Need-same-length
-same-length c = search needs
-
-same-length-2 : tie.Need-same-length-2
-same-length-2 c = search needs
-
-same-length-3 : tie.Need-same-length-3
-same-length-3 c = search needs
 
 returns : tie.Need-returns
 returns c =
@@ -68,13 +47,13 @@ pub fill-spec : {M : Type 1} → statement M
 fill-spec =
     tie.close
     (tie.spec
-    read-layer-requires
-    enum-known-layer
+    (λ c κs. search needs)
+    (λ c. search needs)
     refill-requires
-    enum-known-why
-    refused-requires
-    same-length
-    same-length-2
-    same-length-3
+    (λ c. search needs)
+    (λ c κs. search needs)
+    (λ c. search needs)
+    (λ c. search needs)
+    (λ c. search needs)
     returns
     returns-2)

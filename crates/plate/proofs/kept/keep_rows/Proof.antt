@@ -40,9 +40,6 @@ place-in c = row-in (c .before .loop .row) _ _ (c .loop-test .taken)
 below : (c : tie.In-loop Inv-loop μ-loop) → start (made c) .args .image .first + (c .before .loop .row + 1) < 2 ^ 64
 below c = omega (arith, c .loop-test .taken, start (made c) .pre .rows-in, start (made c) .pre .fits, start (made c) .good)
 
-matte-after-requires : tie.Need-matte-after-requires Inv-loop μ-loop
-matte-after-requires c κs = search needs
-
 mul-places : tie.Need-mul-places Inv-loop μ-loop
 mul-places c = omega (arith, start c .pre .sums-are, start c .good)
 
@@ -130,12 +127,6 @@ loop-again c =
       },
     )
 
-same-length : tie.Need-same-length Inv-loop μ-loop
-same-length c = search needs
-
-same-length-2 : tie.Need-same-length-2 Inv-loop μ-loop
-same-length-2 c = search needs
-
 returns : tie.Need-returns Inv-loop μ-loop
 returns c =
     let turn = c .before .loop in
@@ -148,7 +139,7 @@ keep-rows-spec =
     (tie.spec
     Inv-loop
     μ-loop
-    matte-after-requires
+    (λ c κs. search needs)
     mul-places
     sub-light-down
     sub-matte-down
@@ -162,6 +153,6 @@ keep-rows-spec =
     add-row
     loop-less
     loop-again
-    same-length
-    same-length-2
+    (λ c. search needs)
+    (λ c. search needs)
     returns)

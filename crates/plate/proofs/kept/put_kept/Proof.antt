@@ -38,29 +38,11 @@ reads : (c : tie.After-change)
     putRead (s .args .state) (asked s) (sizedAs (held s)) (held s .pixels) ≡ ToChange (c .change .given .0 .0)
 reads c = sym (c .before .before .read-put .ensures) ∙ c .change .given .1
 
-check-kept-requires : tie.Need-check-kept-requires
-check-kept-requires c κs = search needs
-
-enum-known-checked : tie.Need-enum-known-checked
-enum-known-checked c = search needs
-
-refused-requires : tie.Need-refused-requires
-refused-requires c κs = search needs
-
 returns : tie.Need-returns
 unfolding putKeptCall putKeptBy keptRead canvasBy putBy
 returns c =
     let found = c .before .before in
     rw (c .refused .ensures, ← found .before .before .check-kept .ensures, found .checked .given .1)
-
-enum-told : tie.Need-enum-told
-enum-told c = search needs
-
-read-put-requires : tie.Need-read-put-requires
-read-put-requires c κs = search needs
-
-enum-known-change : tie.Need-enum-known-change
-enum-known-change c = search needs
 
 mend-requires : tie.Need-mend-requires
 mend-requires c κs =
@@ -74,30 +56,6 @@ log-and-exchange-requires c κs =
     let s = start (change .before .before) in
     put-ready (s .args .state) (asked s) (held s) (omega (arith, s .good)) _ (reads change)
 
-enum-known-why : tie.Need-enum-known-why
-enum-known-why c = search needs
-
-refused-requires-2 : tie.Need-refused-requires-2
-refused-requires-2 c κs = search needs
-
-same-length : tie.Need-same-length
-same-length c = search needs
-
-same-length-2 : tie.Need-same-length-2
-same-length-2 c = search needs
-
-same-length-3 : tie.Need-same-length-3
-same-length-3 c = search needs
-
-same-length-4 : tie.Need-same-length-4
-same-length-4 c = search needs
-
-same-length-5 : tie.Need-same-length-5
-same-length-5 c = search needs
-
-same-length-6 : tie.Need-same-length-6
-same-length-6 c = search needs
-
 returns-2 : tie.Need-returns-2
 unfolding putKeptCall putKeptBy keptRead canvasBy
 returns-2 c =
@@ -106,9 +64,6 @@ returns-2 c =
     let change = mended .before .before .before .before .before in
     rw (checked (change .before .before), reads change)
     (λ j. record { call = made .log-and-exchange .ensures j; canvas = mended .mend .ensures j })
-
-same-length-7 : tie.Need-same-length-7
-same-length-7 c = search needs
 
 returns-3 : tie.Need-returns-3
 unfolding putKeptCall putKeptBy keptRead canvasBy putBy
@@ -120,23 +75,23 @@ pub put-kept-spec : {M : Type 1} → statement M
 put-kept-spec =
     tie.close
     (tie.spec
-    check-kept-requires
-    enum-known-checked
-    refused-requires
+    (λ c κs. search needs)
+    (λ c. search needs)
+    (λ c κs. search needs)
     returns
-    enum-told
-    read-put-requires
-    enum-known-change
+    (λ c. search needs)
+    (λ c κs. search needs)
+    (λ c. search needs)
     mend-requires
     log-and-exchange-requires
-    enum-known-why
-    refused-requires-2
-    same-length
-    same-length-2
-    same-length-3
-    same-length-4
-    same-length-5
-    same-length-6
+    (λ c. search needs)
+    (λ c κs. search needs)
+    (λ c. search needs)
+    (λ c. search needs)
+    (λ c. search needs)
+    (λ c. search needs)
+    (λ c. search needs)
+    (λ c. search needs)
     returns-2
-    same-length-7
+    (λ c. search needs)
     returns-3)

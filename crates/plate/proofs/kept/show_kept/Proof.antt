@@ -22,33 +22,12 @@ passed : (c : tie.After-enum-told)
     ≡ Accepted
 passed c = sym (c .before .before .check-show-kept .ensures) ∙ c .enum-told .given .1
 
-check-show-kept-requires : tie.Need-check-show-kept-requires
-check-show-kept-requires c κs = search needs
-
-enum-told : tie.Need-enum-told
-enum-told c = search needs
-
-enum-told-2 : tie.Need-enum-told-2
-enum-told-2 c = search needs
-
 returns : tie.Need-returns
 unfolding showKeptCall showKeptBy showBy sumsBy
 returns c = let told = c .enum-told2 .given .1 in rw (told, sym (c .before .before .check-show-kept .ensures) ∙ told)
 
 keep-all-requires : tie.Need-keep-all-requires
 keep-all-requires c κs = show-kept-ready _ _ _ _ _ _ (passed (c .before .before .before .before))
-
-same-length : tie.Need-same-length
-same-length c = search needs
-
-same-length-2 : tie.Need-same-length-2
-same-length-2 c = search needs
-
-same-length-3 : tie.Need-same-length-3
-same-length-3 c = search needs
-
-same-length-4 : tie.Need-same-length-4
-same-length-4 c = search needs
 
 returns-2 : tie.Need-returns-2
 unfolding showKeptCall
@@ -60,13 +39,13 @@ pub show-kept-spec : {M : Type 1} → statement M
 show-kept-spec =
     tie.close
     (tie.spec
-    check-show-kept-requires
-    enum-told
-    enum-told-2
+    (λ c κs. search needs)
+    (λ c. search needs)
+    (λ c. search needs)
     returns
     keep-all-requires
-    same-length
-    same-length-2
-    same-length-3
-    same-length-4
+    (λ c. search needs)
+    (λ c. search needs)
+    (λ c. search needs)
+    (λ c. search needs)
     returns-2)

@@ -33,29 +33,11 @@ reads : (c : tie.After-change)
     undoRead (s .args .state) (sizedAs (held s)) (held s .pixels) (held s .log) ≡ ToChange (c .change .given .0 .0)
 reads c = sym (c .before .before .read-undo .ensures) ∙ c .change .given .1
 
-check-kept-requires : tie.Need-check-kept-requires
-check-kept-requires c κs = search needs
-
-enum-known-checked : tie.Need-enum-known-checked
-enum-known-checked c = search needs
-
-refused-requires : tie.Need-refused-requires
-refused-requires c κs = search needs
-
 returns : tie.Need-returns
 unfolding undoKeptCall undoKeptBy keptRead canvasBy undoBy
 returns c =
     let found = c .before .before in
     rw (c .refused .ensures, ← found .before .before .check-kept .ensures, found .checked .given .1)
-
-enum-told : tie.Need-enum-told
-enum-told c = search needs
-
-read-undo-requires : tie.Need-read-undo-requires
-read-undo-requires c κs = search needs
-
-enum-known-change : tie.Need-enum-known-change
-enum-known-change c = search needs
 
 mend-requires : tie.Need-mend-requires
 mend-requires c κs =
@@ -69,30 +51,6 @@ unlog-and-exchange-requires c κs =
     let s = start (change .before .before) in
     undo-ready (s .args .state) (held s) _ (reads change)
 
-enum-known-why : tie.Need-enum-known-why
-enum-known-why c = search needs
-
-refused-requires-2 : tie.Need-refused-requires-2
-refused-requires-2 c κs = search needs
-
-same-length : tie.Need-same-length
-same-length c = search needs
-
-same-length-2 : tie.Need-same-length-2
-same-length-2 c = search needs
-
-same-length-3 : tie.Need-same-length-3
-same-length-3 c = search needs
-
-same-length-4 : tie.Need-same-length-4
-same-length-4 c = search needs
-
-same-length-5 : tie.Need-same-length-5
-same-length-5 c = search needs
-
-same-length-6 : tie.Need-same-length-6
-same-length-6 c = search needs
-
 returns-2 : tie.Need-returns-2
 unfolding undoKeptCall undoKeptBy keptRead canvasBy
 returns-2 c =
@@ -101,12 +59,6 @@ returns-2 c =
     let change = mended .before .before .before .before .before in
     rw (checked (change .before .before), reads change)
     (λ j. record { call = made .unlog-and-exchange .ensures j; canvas = mended .mend .ensures j })
-
-same-length-7 : tie.Need-same-length-7
-same-length-7 c = search needs
-
-same-length-8 : tie.Need-same-length-8
-same-length-8 c = search needs
 
 returns-3 : tie.Need-returns-3
 unfolding undoKeptCall undoKeptBy keptRead canvasBy undoBy
@@ -118,24 +70,24 @@ pub undo-kept-spec : {M : Type 1} → statement M
 undo-kept-spec =
     tie.close
     (tie.spec
-    check-kept-requires
-    enum-known-checked
-    refused-requires
+    (λ c κs. search needs)
+    (λ c. search needs)
+    (λ c κs. search needs)
     returns
-    enum-told
-    read-undo-requires
-    enum-known-change
+    (λ c. search needs)
+    (λ c κs. search needs)
+    (λ c. search needs)
     mend-requires
     unlog-and-exchange-requires
-    enum-known-why
-    refused-requires-2
-    same-length
-    same-length-2
-    same-length-3
-    same-length-4
-    same-length-5
-    same-length-6
+    (λ c. search needs)
+    (λ c κs. search needs)
+    (λ c. search needs)
+    (λ c. search needs)
+    (λ c. search needs)
+    (λ c. search needs)
+    (λ c. search needs)
+    (λ c. search needs)
     returns-2
-    same-length-7
-    same-length-8
+    (λ c. search needs)
+    (λ c. search needs)
     returns-3)

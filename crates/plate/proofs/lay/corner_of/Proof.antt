@@ -25,9 +25,6 @@ sides s =
     let tall : f .high ≡ high (f .size) = ap (λ (g : Frame). g .high) (placed .framed) in
     (omega (arith, placed .column-in, s .good), omega (arith, placed .row-in, s .good))
 
-sub-spare : tie.Need-sub-spare
-sub-spare c = search needs
-
 add-result : tie.Need-add-result
 add-result c = omega (arith, sides (c .before))
 
@@ -40,9 +37,6 @@ add-result-2 c = omega (arith, sides (c .before .before))
 add-result-3 : tie.Need-add-result-3
 add-result-3 c = omega (arith, corner (c .before .before))
 
-returns : tie.Need-returns
-returns c = search needs
-
 pub corner-of-spec : {M : Type 1} → statement M
 corner-of-spec =
-    tie.close (tie.spec sub-spare add-result mul-result add-result-2 add-result-3 returns)
+    tie.close (tie.spec (λ c. search needs) add-result mul-result add-result-2 add-result-3 (λ c. search needs))

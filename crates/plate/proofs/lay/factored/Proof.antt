@@ -19,12 +19,6 @@ returns-2 c =
     let s = c .before .before .before in
     rw (c .before .if2 .taken, c .if3 .taken) (times-one (s .args .w) (omega (arith, s .good)) (omega (arith, s .good)))
 
-twice-requires : tie.Need-twice-requires
-twice-requires c κs = search needs
-
-opposite-requires : tie.Need-opposite-requires
-opposite-requires c κs = search needs
-
 returns-3 : tie.Need-returns-3
 unfolding sign choose minus
 returns-3 c =
@@ -34,9 +28,6 @@ returns-3 c =
     rw (else .before .if2 .taken, one)
     (c .opposite .ensures ∙ times-times (a .w) _ 2 (minus 1) (c .before .twice .ensures))
 
-opposite-requires-2 : tie.Need-opposite-requires-2
-opposite-requires-2 c κs = search needs
-
 returns-4 : tie.Need-returns-4
 unfolding sign choose minus
 returns-4 c =
@@ -45,9 +36,6 @@ returns-4 c =
     let three : a .boxes ≡ 3 = omega arith in
     rw (three, then .if4 .taken) (c .opposite2 .ensures)
 
-thrice-requires : tie.Need-thrice-requires
-thrice-requires c κs = search needs
-
 returns-5 : tie.Need-returns-5
 unfolding sign choose minus
 returns-5 c =
@@ -55,12 +43,6 @@ returns-5 c =
     let a = then .before .before .before .before .args in
     let three : a .boxes ≡ 3 = omega arith in
     rw (three, then .if5 .taken) (c .thrice .ensures)
-
-thrice-requires-2 : tie.Need-thrice-requires-2
-thrice-requires-2 c κs = search needs
-
-opposite-requires-3 : tie.Need-opposite-requires-3
-opposite-requires-3 c κs = search needs
 
 returns-6 : tie.Need-returns-6
 unfolding sign choose minus
@@ -76,13 +58,13 @@ factored-spec =
     (tie.spec
     returns
     returns-2
-    twice-requires
-    opposite-requires
+    (λ c κs. search needs)
+    (λ c κs. search needs)
     returns-3
-    opposite-requires-2
+    (λ c κs. search needs)
     returns-4
-    thrice-requires
+    (λ c κs. search needs)
     returns-5
-    thrice-requires-2
-    opposite-requires-3
+    (λ c κs. search needs)
+    (λ c κs. search needs)
     returns-6)

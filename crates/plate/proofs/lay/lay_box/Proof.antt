@@ -7,9 +7,6 @@ use Rattle.plate.proofs.laying.Worths.{times-one, drawn-append, box-col
 use Rattle.plate.proofs.lay.lay_box.Statement.{statement}
 use Rattle.plate.proofs.lay.lay_box.Tie as tie
 
-opposite-requires : tie.Need-opposite-requires
-opposite-requires c κs = search needs
-
 add-far : tie.Need-add-far
 unfolding AllIn boxGrid marksTo
 add-far c = omega arith
@@ -21,9 +18,6 @@ lay-piece-requires c κs = search needs
 lay-piece-requires-2 : tie.Need-lay-piece-requires-2
 unfolding AllIn boxGrid marksTo
 lay-piece-requires-2 c κs = search needs
-
-same-length : tie.Need-same-length
-same-length c = search needs
 
 returns : tie.Need-returns
 returns c =
@@ -41,9 +35,9 @@ pub lay-box-spec : {M : Type 1} → statement M
 lay-box-spec =
     tie.close
     (tie.spec
-    opposite-requires
+    (λ c κs. search needs)
     add-far
     lay-piece-requires
     lay-piece-requires-2
-    same-length
+    (λ c. search needs)
     returns)

@@ -9,11 +9,8 @@ use Rattle.plate.proofs.lay.lay_centre.Tie as tie
 lay-box-requires : tie.Need-lay-box-requires
 lay-box-requires c κs = rw (← centre-grid) at (c .before .before .pre)
 
-same-length : tie.Need-same-length
-same-length c = search needs
-
 returns : tie.Need-returns
 returns c = c .before .before .lay-box .ensures ∙ ap (layDrawn _ _ _) centre-grid
 
 pub lay-centre-spec : {M : Type 1} → statement M
-lay-centre-spec = tie.close (tie.spec lay-box-requires same-length returns)
+lay-centre-spec = tie.close (tie.spec lay-box-requires (λ c. search needs) returns)

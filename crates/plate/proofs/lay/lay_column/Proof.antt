@@ -67,12 +67,6 @@ lay-mark-requires c κs =
           (s .pre .roomy .inside),
     )
 
-add-j : tie.Need-add-j Inv-loop μ-loop
-add-j c = search needs
-
-loop-less : tie.Need-loop-less Inv-loop μ-loop
-loop-less c = search needs
-
 loop-again : tie.Need-loop-again Inv-loop μ-loop
 loop-again c =
     let laid = c .before .before in
@@ -85,9 +79,6 @@ loop-again c =
           (column-more (a .g) v (a .w) _ (now (a .planes)) (a .b .plane) (a .b .count) (a .b .side) (a .x) k (turn .before .loop .j) e
           (laid .before .factored .ensures)),
     )
-
-same-length : tie.Need-same-length Inv-loop μ-loop
-same-length c = search needs
 
 returns : tie.Need-returns Inv-loop μ-loop
 returns c =
@@ -107,8 +98,8 @@ lay-column-spec =
     add-lay-mark
     factored-requires
     lay-mark-requires
-    add-j
-    loop-less
+    (λ c. search needs)
+    (λ c. search needs)
     loop-again
-    same-length
+    (λ c. search needs)
     returns)

@@ -83,12 +83,6 @@ lay-column-requires c κs =
       three-at-most = s .pre .2;
     }
 
-add-i : tie.Need-add-i Inv-loop μ-loop
-add-i c = search needs
-
-loop-less : tie.Need-loop-less Inv-loop μ-loop
-loop-less c = search needs
-
 loop-again : tie.Need-loop-again Inv-loop μ-loop
 loop-again c =
     let laid = c .before .before in
@@ -105,9 +99,6 @@ loop-again c =
           (turn .before .loop .inv .2)
           ∙ grid-more (a .g) (a .w) (now (a .planes)) (a .b) i),
     )
-
-same-length : tie.Need-same-length Inv-loop μ-loop
-same-length c = search needs
 
 returns : tie.Need-returns Inv-loop μ-loop
 unfolding drawnMarks boxGrid gridTo
@@ -128,8 +119,8 @@ lay-columns-spec =
     add-lay-column
     factored-requires
     lay-column-requires
-    add-i
-    loop-less
+    (λ c. search needs)
+    (λ c. search needs)
     loop-again
-    same-length
+    (λ c. search needs)
     returns)

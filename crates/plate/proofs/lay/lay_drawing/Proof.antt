@@ -3,30 +3,18 @@ use borrow.Author.Needs.{needs}
 use Rattle.plate.proofs.lay.lay_drawing.Statement.{statement}
 use Rattle.plate.proofs.lay.lay_drawing.Tie as tie
 
-enum-known-d : tie.Need-enum-known-d
-enum-known-d c = search needs
-
 lay-grid-requires : tie.Need-lay-grid-requires
 lay-grid-requires c κs =
     let known = c .before .before in rw (← known .d .given .1) (known .before .before .before .pre)
-
-enum-known-d-2 : tie.Need-enum-known-d-2
-enum-known-d-2 c = search needs
 
 lay-lines-requires : tie.Need-lay-lines-requires
 lay-lines-requires c κs =
     let known = c .before .before in rw (← known .d2 .given .1) (known .before .before .before .pre .0)
 
-same-length : tie.Need-same-length
-same-length c = search needs
-
 returns : tie.Need-returns
 returns c =
     let laid = c .before .before in
     rw (laid .lay-grid .ensures, laid .before .before .before .d .given .1)
-
-same-length-2 : tie.Need-same-length-2
-same-length-2 c = search needs
 
 returns-2 : tie.Need-returns-2
 returns-2 c =
@@ -37,11 +25,11 @@ pub lay-drawing-spec : {M : Type 1} → statement M
 lay-drawing-spec =
     tie.close
     (tie.spec
-    enum-known-d
+    (λ c. search needs)
     lay-grid-requires
-    enum-known-d-2
+    (λ c. search needs)
     lay-lines-requires
-    same-length
+    (λ c. search needs)
     returns
-    same-length-2
+    (λ c. search needs)
     returns-2)

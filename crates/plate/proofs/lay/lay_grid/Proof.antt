@@ -10,9 +10,6 @@ lay-box-requires : tie.Need-lay-box-requires
 unfolding drawnMarks
 lay-box-requires c κs = let then = c .before in rw (then .if1 .taken) at (then .before .before .before .pre .0)
 
-same-length : tie.Need-same-length
-same-length c = search needs
-
 returns : tie.Need-returns
 unfolding drawnMarks
 returns c =
@@ -26,13 +23,10 @@ lay-columns-requires c κs =
     let s = else .before .before .before in
     (s .pre .0, omega (arith, s .pre .1), omega (arith, s .pre .1))
 
-same-length-2 : tie.Need-same-length-2
-same-length-2 c = search needs
-
 returns-2 : tie.Need-returns-2
 returns-2 c = c .before .before .lay-columns .ensures
 
 pub lay-grid-spec : {M : Type 1} → statement M
 lay-grid-spec =
     tie.close
-    (tie.spec lay-box-requires same-length returns lay-columns-requires same-length-2 returns-2)
+    (tie.spec lay-box-requires (λ c. search needs) returns lay-columns-requires (λ c. search needs) returns-2)

@@ -16,9 +16,6 @@ lay-piece-requires c κs =
     let start = flat .before .before .before in
     rw (not-false (start .args .o .flat) (flat .if1 .left)) at (start .pre)
 
-same-length : tie.Need-same-length
-same-length c = search needs
-
 returns-2 : tie.Need-returns-2
 unfolding levelMarks
 returns-2 c =
@@ -28,4 +25,4 @@ returns-2 c =
     λ w k d e f. rw flat-is (laid .lay-piece .ensures w k d e f)
 
 pub lay-level-spec : {M : Type 1} → statement M
-lay-level-spec = tie.close (tie.spec returns lay-piece-requires same-length returns-2)
+lay-level-spec = tie.close (tie.spec returns lay-piece-requires (λ c. search needs) returns-2)

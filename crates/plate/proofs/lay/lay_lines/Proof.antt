@@ -32,9 +32,6 @@ bottom-first c = c .before .before .before .before
 abbrev top-last : tie.After-lay-piece3 → tie.After-lay-piece2
 top-last c = c .before .before .before .before
 
-opposite-requires : tie.Need-opposite-requires
-opposite-requires c κs = search needs
-
 lay-piece-requires : tie.Need-lay-piece-requires
 lay-piece-requires c κs =
     let s = c .before .before .before .before .before in
@@ -95,9 +92,6 @@ lay-piece-requires-4 c κs =
       inside = bottom-in s .last;
     }
 
-same-length : tie.Need-same-length
-same-length c = search needs
-
 returns : tie.Need-returns
 unfolding drawnMarks linePieces levelMarks
 returns c =
@@ -124,12 +118,12 @@ pub lay-lines-spec : {M : Type 1} → statement M
 lay-lines-spec =
     tie.close
     (tie.spec
-    opposite-requires
+    (λ c κs. search needs)
     lay-piece-requires
     lay-level-requires
     lay-piece-requires-2
     lay-piece-requires-3
     lay-level-requires-2
     lay-piece-requires-4
-    same-length
+    (λ c. search needs)
     returns)

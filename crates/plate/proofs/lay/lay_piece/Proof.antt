@@ -13,12 +13,9 @@ lay-mark-requires-2 : tie.Need-lay-mark-requires-2
 unfolding AllIn
 lay-mark-requires-2 c κs = omega arith
 
-same-length : tie.Need-same-length
-same-length c = search needs
-
 returns : tie.Need-returns
 unfolding layDrawn
 returns c = λ w k d e f. rw (c .before .before .lay-mark2 .ensures, c .before .before .before .before .before .before .lay-mark .ensures, e, f)
 
 pub lay-piece-spec : {M : Type 1} → statement M
-lay-piece-spec = tie.close (tie.spec lay-mark-requires lay-mark-requires-2 same-length returns)
+lay-piece-spec = tie.close (tie.spec lay-mark-requires lay-mark-requires-2 (λ c. search needs) returns)

@@ -5,9 +5,6 @@ use Rattle.plate.proofs.laying.Corners.{few-boxes}
 use Rattle.plate.proofs.lay.lay_taps.Statement.{statement}
 use Rattle.plate.proofs.lay.lay_taps.Tie as tie
 
-draw-requires : tie.Need-draw-requires
-draw-requires c κs = search needs
-
 lay-drawing-requires : tie.Need-lay-drawing-requires
 lay-drawing-requires c κs =
     let s = c .before .before .before in
@@ -16,12 +13,9 @@ lay-drawing-requires c κs =
       rw (c .draw .ensures) (few-boxes (a .shape) (a .radius)),
     )
 
-same-length : tie.Need-same-length
-same-length c = search needs
-
 returns : tie.Need-returns
 returns c =
     let laid = c .before .before in rw (laid .lay-drawing .ensures, laid .before .draw .ensures, drawing-marks)
 
 pub lay-taps-spec : {M : Type 1} → statement M
-lay-taps-spec = tie.close (tie.spec draw-requires lay-drawing-requires same-length returns)
+lay-taps-spec = tie.close (tie.spec (λ c κs. search needs) lay-drawing-requires (λ c. search needs) returns)

@@ -4,12 +4,6 @@ use Rattle.plate.proofs.laying.Worths.{opposite-number}
 use Rattle.plate.proofs.lay.opposite.Statement.{statement}
 use Rattle.plate.proofs.lay.opposite.Tie as tie
 
-wrapping-sub-u64-requires : tie.Need-wrapping-sub-u64-requires
-wrapping-sub-u64-requires c κs = search needs
-
-wrapping-sub-u64-requires-2 : tie.Need-wrapping-sub-u64-requires-2
-wrapping-sub-u64-requires-2 c κs = search needs
-
 returns : tie.Need-returns
 returns c =
     let w = c .before .before .args .w in
@@ -19,4 +13,4 @@ returns c =
     )
 
 pub opposite-spec : {M : Type 1} → statement M
-opposite-spec = tie.close (tie.spec wrapping-sub-u64-requires wrapping-sub-u64-requires-2 returns)
+opposite-spec = tie.close (tie.spec (λ c κs. search needs) (λ c κs. search needs) returns)

@@ -10,28 +10,10 @@ use Rattle.plate.proofs.lay.take_pixel.Tie as tie
 abbrev start : tie.After-reach → tie.Start
 start c = c .before .before .before .before .before .before
 
-worth-of-requires : tie.Need-worth-of-requires
-worth-of-requires c κs = search needs
-
-opposite-requires : tie.Need-opposite-requires
-opposite-requires c κs = search needs
-
-worth-of-requires-2 : tie.Need-worth-of-requires-2
-worth-of-requires-2 c κs = search needs
-
-opposite-requires-2 : tie.Need-opposite-requires-2
-opposite-requires-2 c κs = search needs
-
-reach-requires : tie.Need-reach-requires
-reach-requires c κs = search needs
-
 corner-of-requires : tie.Need-corner-of-requires
 corner-of-requires c κs =
     let s = start c in
     (s .pre .placed, rw (c .reach .ensures) (pixel-reaches _ _ _ _ _ _ (s .pre)))
-
-corner-of-requires-2 : tie.Need-corner-of-requires-2
-corner-of-requires-2 c κs = search needs
 
 lay-taps-requires : tie.Need-lay-taps-requires
 lay-taps-requires c κs =
@@ -47,9 +29,6 @@ lay-centre-requires c κs =
     let s = start (middle .before .before) in
     rw (middle .corner-of2 .ensures)
     (kernel-roomy _ _ _ (s .pre .placed) Box 0 (omega arith) _ (search needs ∙ s .pre .planes-are))
-
-same-length : tie.Need-same-length
-same-length c = search needs
 
 returns : tie.Need-returns
 returns c =
@@ -81,14 +60,14 @@ pub take-pixel-spec : {M : Type 1} → statement M
 take-pixel-spec =
     tie.close
     (tie.spec
-    worth-of-requires
-    opposite-requires
-    worth-of-requires-2
-    opposite-requires-2
-    reach-requires
+    (λ c κs. search needs)
+    (λ c κs. search needs)
+    (λ c κs. search needs)
+    (λ c κs. search needs)
+    (λ c κs. search needs)
     corner-of-requires
-    corner-of-requires-2
+    (λ c κs. search needs)
     lay-taps-requires
     lay-centre-requires
-    same-length
+    (λ c. search needs)
     returns)

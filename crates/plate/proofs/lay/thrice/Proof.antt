@@ -4,15 +4,6 @@ use Rattle.plate.proofs.laying.Worths.{thrice-number}
 use Rattle.plate.proofs.lay.thrice.Statement.{statement}
 use Rattle.plate.proofs.lay.thrice.Tie as tie
 
-twice-requires : tie.Need-twice-requires
-twice-requires c κs = search needs
-
-wrapping-add-u64-requires : tie.Need-wrapping-add-u64-requires
-wrapping-add-u64-requires c κs = search needs
-
-wrapping-add-u64-requires-2 : tie.Need-wrapping-add-u64-requires-2
-wrapping-add-u64-requires-2 c κs = search needs
-
 returns : tie.Need-returns
 returns c =
     let w = c .before .before .before .args .w in
@@ -27,4 +18,4 @@ returns c =
 pub thrice-spec : {M : Type 1} → statement M
 thrice-spec =
     tie.close
-    (tie.spec twice-requires wrapping-add-u64-requires wrapping-add-u64-requires-2 returns)
+    (tie.spec (λ c κs. search needs) (λ c κs. search needs) (λ c κs. search needs) returns)

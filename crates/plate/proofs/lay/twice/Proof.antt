@@ -4,12 +4,6 @@ use Rattle.plate.proofs.laying.Worths.{twice-number}
 use Rattle.plate.proofs.lay.twice.Statement.{statement}
 use Rattle.plate.proofs.lay.twice.Tie as tie
 
-wrapping-add-u64-requires : tie.Need-wrapping-add-u64-requires
-wrapping-add-u64-requires c κs = search needs
-
-wrapping-add-u64-requires-2 : tie.Need-wrapping-add-u64-requires-2
-wrapping-add-u64-requires-2 c κs = search needs
-
 returns : tie.Need-returns
 returns c =
     let w = c .before .before .args .w in
@@ -21,4 +15,4 @@ returns c =
     )
 
 pub twice-spec : {M : Type 1} → statement M
-twice-spec = tie.close (tie.spec wrapping-add-u64-requires wrapping-add-u64-requires-2 returns)
+twice-spec = tie.close (tie.spec (λ c κs. search needs) (λ c κs. search needs) returns)

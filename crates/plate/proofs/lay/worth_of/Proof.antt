@@ -10,14 +10,8 @@ use Rattle.plate.proofs.lay.worth_of.Tie as tie
 product : (c : tie.Start) → c .args .p .opacity * c .args .part ≤ 255 * 4294967295
 product c = product-le (c .args .p .opacity) (c .args .part) 255 4294967295 (omega (arith, c .good)) (omega (arith, c .good))
 
-cast-matte : tie.Need-cast-matte
-cast-matte c = search needs
-
 mul-matte : tie.Need-mul-matte
 mul-matte c = omega (arith, product (c .before))
-
-cast-t4 : tie.Need-cast-t4
-cast-t4 c = search needs
 
 mul-t5 : tie.Need-mul-t5
 mul-t5 c =
@@ -28,8 +22,5 @@ mul-t5 c =
       product-le (p .value) (p .opacity * s .args .part) 65535 (255 * 4294967295) (omega (arith, s .good)) (product s),
     )
 
-returns : tie.Need-returns
-returns c = search needs
-
 pub worth-of-spec : {M : Type 1} → statement M
-worth-of-spec = tie.close (tie.spec cast-matte mul-matte cast-t4 mul-t5 returns)
+worth-of-spec = tie.close (tie.spec (λ c. search needs) mul-matte (λ c. search needs) mul-t5 (λ c. search needs))

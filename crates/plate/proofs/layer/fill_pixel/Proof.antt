@@ -22,12 +22,6 @@ radius c =
     (c .before .before .radius-from .ensures)
     (c .radius .given .1)
 
-radius-from-requires : tie.Need-radius-from-requires
-radius-from-requires c κs = search needs
-
-enum-known-radius : tie.Need-enum-known-radius
-enum-known-radius c = search needs
-
 returns : tie.Need-returns
 returns c =
     let found = c .before in
@@ -37,9 +31,6 @@ returns c =
     radius-read _ (a .layer .lens) (a .layer .top) (a .depth) (found .radius-from .ensures)
     (start .pre .0 .lens-lawful) (start .pre .2 .depth-in) in
     absurd (⊎-elim (λ q. omega arith) (λ q. omega arith) (rw some at (c .match .keys2)))
-
-share-in-requires : tie.Need-share-in-requires
-share-in-requires c κs = search needs
 
 lay-pixel-requires : tie.Need-lay-pixel-requires
 lay-pixel-requires c κs =
@@ -58,9 +49,6 @@ pack-requires : tie.Need-pack-requires
 pack-requires c κs =
     c .before .before .before .before .before .before .before .before .before .before .before .pre .2 .value-in
 
-same-length : tie.Need-same-length
-same-length c = search needs
-
 returns-2 : tie.Need-returns-2
 returns-2 c =
     let laid = c .before .before .before in
@@ -71,11 +59,11 @@ pub fill-pixel-spec : {M : Type 1} → statement M
 fill-pixel-spec =
     tie.close
     (tie.spec
-    radius-from-requires
-    enum-known-radius
+    (λ c κs. search needs)
+    (λ c. search needs)
     returns
-    share-in-requires
+    (λ c κs. search needs)
     lay-pixel-requires
     pack-requires
-    same-length
+    (λ c. search needs)
     returns-2)

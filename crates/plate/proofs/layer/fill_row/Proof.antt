@@ -89,12 +89,6 @@ mul-pixels c = omega (arith, inside (c .before .before .before .before .before .
 slice-write-pixels : tie.Need-slice-write-pixels Inv-loop μ-loop
 slice-write-pixels c = omega (arith, inside (c .before .before .before .before .before .before .before))
 
-add-x : tie.Need-add-x Inv-loop μ-loop
-add-x c = search needs
-
-loop-less : tie.Need-loop-less Inv-loop μ-loop
-loop-less c = search needs
-
 loop-again : tie.Need-loop-again Inv-loop μ-loop
 loop-again c =
     let made = c .before .before in
@@ -114,12 +108,6 @@ loop-again c =
           (made .fill-pixel .ensures .word-is)
           (turn .before .loop .inv .3 cells done),
     )
-
-same-length : tie.Need-same-length Inv-loop μ-loop
-same-length c = search needs
-
-same-length-2 : tie.Need-same-length-2 Inv-loop μ-loop
-same-length-2 c = search needs
 
 returns : tie.Need-returns Inv-loop μ-loop
 unfolding FilledRow
@@ -147,9 +135,9 @@ fill-row-spec =
     fill-pixel-requires
     mul-pixels
     slice-write-pixels
-    add-x
-    loop-less
+    (λ c. search needs)
+    (λ c. search needs)
     loop-again
-    same-length
-    same-length-2
+    (λ c. search needs)
+    (λ c. search needs)
     returns)

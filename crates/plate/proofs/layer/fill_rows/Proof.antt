@@ -32,24 +32,12 @@ fill-row-requires c κs =
     let start = entry (turn .before) in
     (rw (turn .before .loop .inv .1, turn .before .loop .inv .2) (start .pre .0), start .pre .1, turn .loop-test .taken)
 
-add-y : tie.Need-add-y Inv-loop μ-loop
-add-y c = search needs
-
-loop-less : tie.Need-loop-less Inv-loop μ-loop
-loop-less c = search needs
-
 loop-again : tie.Need-loop-again Inv-loop μ-loop
 unfolding FilledRow
 loop-again c =
     let made = c .before .before .before .before in
     let turn = made .before .before .before .before .loop in
     (omega arith, search needs, search needs, made .fill-row .ensures _ (turn .inv .3))
-
-same-length : tie.Need-same-length Inv-loop μ-loop
-same-length c = search needs
-
-same-length-2 : tie.Need-same-length-2 Inv-loop μ-loop
-same-length-2 c = search needs
 
 returns : tie.Need-returns Inv-loop μ-loop
 returns c =
@@ -67,9 +55,9 @@ fill-rows-spec =
     μ-loop
     loop-holds
     fill-row-requires
-    add-y
-    loop-less
+    (λ c. search needs)
+    (λ c. search needs)
     loop-again
-    same-length
-    same-length-2
+    (λ c. search needs)
+    (λ c. search needs)
     returns)

@@ -50,15 +50,6 @@ returns : tie.Need-returns
 unfolding layerCheck refuseIf
 returns c = λ opacities. rw (← c .before .value-above .ensures, c .if1 .taken)
 
-shape-of-requires : tie.Need-shape-of-requires
-shape-of-requires c κs = search needs
-
-enum-known-known : tie.Need-enum-known-known
-enum-known-known c = search needs
-
-enum-told : tie.Need-enum-told
-enum-told c = search needs
-
 returns-2 : tie.Need-returns-2
 unfolding layerCheck refuseIf shapeCheck
 returns-2 c =
@@ -71,23 +62,14 @@ returns-2 c =
       c .enum-told .given .1,
     )
 
-lawful-lens-requires : tie.Need-lawful-lens-requires
-lawful-lens-requires c κs = search needs
-
 returns-3 : tie.Need-returns-3
 unfolding refuseIf
 returns-3 c =
     λ opacities. rw (past (c .before .before) opacities, ← c .before .lawful-lens .ensures, c .if2 .taken)
 
-depth-between-requires : tie.Need-depth-between-requires
-depth-between-requires c κs = search needs
-
 returns-4 : tie.Need-returns-4
 unfolding refuseIf
 returns-4 c = λ opacities. rw (past-lens (c .before) opacities, c .if3 .taken)
-
-depth-between-requires-2 : tie.Need-depth-between-requires-2
-depth-between-requires-2 c κs = search needs
 
 returns-5 : tie.Need-returns-5
 unfolding refuseIf
@@ -100,9 +82,6 @@ returns-5 c =
       ← scanned .depth-between2 .ensures .0,
       c .if4 .taken,
     )
-
-layer-of-requires : tie.Need-layer-of-requires
-layer-of-requires c κs = search needs
 
 returns-6 : tie.Need-returns-6
 unfolding refuseIf
@@ -126,15 +105,15 @@ read-inputs-spec =
     (tie.spec
     value-above-requires
     returns
-    shape-of-requires
-    enum-known-known
-    enum-told
+    (λ c κs. search needs)
+    (λ c. search needs)
+    (λ c. search needs)
     returns-2
-    lawful-lens-requires
+    (λ c κs. search needs)
     returns-3
-    depth-between-requires
+    (λ c κs. search needs)
     returns-4
-    depth-between-requires-2
+    (λ c κs. search needs)
     returns-5
-    layer-of-requires
+    (λ c κs. search needs)
     returns-6)

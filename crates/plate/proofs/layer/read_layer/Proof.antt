@@ -15,20 +15,11 @@ first : (c : tie.After-enum-told)
     fillLengths (a .state) (a .lent) (length (a .values .now)) (a .opacities) (length (a .depths .now)) ≡ Accepted
 first c = sym (c .before .before .check-fill .ensures) ∙ c .enum-told .given .1
 
-check-fill-requires : tie.Need-check-fill-requires
-check-fill-requires c κs = search needs
-
-enum-known-check : tie.Need-enum-known-check
-enum-known-check c = search needs
-
 returns : tie.Need-returns
 returns c =
     let found = c .before in
     let lengths = sym (found .before .before .check-fill .ensures) ∙ found .check .given .1 in
     λ given e. layer-before _ _ _ _ _ _ (rw (← e) at lengths)
-
-enum-told : tie.Need-enum-told
-enum-told c = search needs
 
 read-inputs-requires : tie.Need-read-inputs-requires
 read-inputs-requires c κs =
@@ -43,9 +34,9 @@ pub read-layer-spec : {M : Type 1} → statement M
 read-layer-spec =
     tie.close
     (tie.spec
-    check-fill-requires
-    enum-known-check
+    (λ c κs. search needs)
+    (λ c. search needs)
     returns
-    enum-told
+    (λ c. search needs)
     read-inputs-requires
     returns-2)

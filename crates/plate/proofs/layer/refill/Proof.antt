@@ -9,29 +9,11 @@ use Rattle.plate.proofs.layer.refill.Tie as tie
 abbrev entry : tie.After-clear-both → tie.Start
 entry c = c .before .before .before .before .before .before .before .before .before
 
-clear-both-requires : tie.Need-clear-both-requires
-clear-both-requires c κs = search needs
-
-shares-requires : tie.Need-shares-requires
-shares-requires c κs = search needs
-
 fill-rows-requires : tie.Need-fill-rows-requires
 fill-rows-requires c κs =
     let shared = c .before .before .before in
     let cleared = shared .before .before .before .before .before in
     (rw (cleared .clear-both .ensures .0, length-replicate) (entry cleared .pre), shared .shares .ensures)
-
-accepted-requires : tie.Need-accepted-requires
-accepted-requires c κs = search needs
-
-same-length : tie.Need-same-length
-same-length c = search needs
-
-same-length-2 : tie.Need-same-length-2
-same-length-2 c = search needs
-
-same-length-3 : tie.Need-same-length-3
-same-length-3 c = search needs
 
 returns : tie.Need-returns
 returns c =
@@ -50,11 +32,11 @@ pub refill-spec : {M : Type 1} → statement M
 refill-spec =
     tie.close
     (tie.spec
-    clear-both-requires
-    shares-requires
+    (λ c κs. search needs)
+    (λ c κs. search needs)
     fill-rows-requires
-    accepted-requires
-    same-length
-    same-length-2
-    same-length-3
+    (λ c κs. search needs)
+    (λ c. search needs)
+    (λ c. search needs)
+    (λ c. search needs)
     returns)

@@ -34,9 +34,6 @@ mul-wrapping-add-u64 c = omega (arith, c .loop-test .taken, start c .pre, start 
 slice-read-wrapping-add-u64 : tie.Need-slice-read-wrapping-add-u64 Inv-loop μ-loop
 slice-read-wrapping-add-u64 c = omega (arith, here (c .before), start (c .before) .good)
 
-wrapping-add-u64-requires : tie.Need-wrapping-add-u64-requires Inv-loop μ-loop
-wrapping-add-u64-requires c κs = search needs
-
 add-sums : tie.Need-add-sums Inv-loop μ-loop
 add-sums c = let test = c .before .before in omega (arith, test .loop-test .taken, start test .pre, start test .good)
 
@@ -63,9 +60,6 @@ loop-again c =
           (c .wrapping-add-u64 .ensures ∙ rw old),
     )
 
-same-length : tie.Need-same-length Inv-loop μ-loop
-same-length c = search needs
-
 returns : tie.Need-returns Inv-loop μ-loop
 returns c = writing-all _ _ _ _ _ _ (c .before .loop .i) (omega arith) (c .before .loop .inv .1)
 
@@ -79,12 +73,12 @@ add-run-spec =
     add-wrapping-add-u64
     mul-wrapping-add-u64
     slice-read-wrapping-add-u64
-    wrapping-add-u64-requires
+    (λ c κs. search needs)
     add-sums
     mul-sums
     slice-write-sums
     add-i
     loop-less
     loop-again
-    same-length
+    (λ c. search needs)
     returns)

@@ -6,24 +6,6 @@ use Rattle.plate.proofs.mending.Runs.{run-given}
 use Rattle.plate.proofs.mend.give_run.Statement.{statement}
 use Rattle.plate.proofs.mend.give_run.Tie as tie
 
-add-first : tie.Need-add-first
-add-first c = search needs
-
-less-requires : tie.Need-less-requires
-less-requires c κs = search needs
-
-add-run-requires : tie.Need-add-run-requires
-add-run-requires c κs = search needs
-
-add-add-run : tie.Need-add-add-run
-add-add-run c = search needs
-
-add-run-requires-2 : tie.Need-add-run-requires-2
-add-run-requires-2 c κs = search needs
-
-same-length : tie.Need-same-length
-same-length c = search needs
-
 returns : tie.Need-returns
 returns c =
     let second = c .before .before in
@@ -42,10 +24,10 @@ pub give-run-spec : {M : Type 1} → statement M
 give-run-spec =
     tie.close
     (tie.spec
-    add-first
-    less-requires
-    add-run-requires
-    add-add-run
-    add-run-requires-2
-    same-length
+    (λ c. search needs)
+    (λ c κs. search needs)
+    (λ c κs. search needs)
+    (λ c. search needs)
+    (λ c κs. search needs)
+    (λ c. search needs)
     returns)

@@ -17,17 +17,8 @@ of-kernel c =
     let e = c .band-of .ensures ∙ ap (λ (q : Share). bandFor (p .shape) (p .radius) q dy) (s .pre .1) in
     subst (λ (b : Band). BandOf (p .shape) (p .radius) dy b) (sym e) (band-is (p .shape) (p .radius) dy (s .pre .0))
 
-band-of-requires : tie.Need-band-of-requires
-band-of-requires c κs = search needs
-
-cast-t6 : tie.Need-cast-t6
-cast-t6 c = search needs
-
-cast-t7 : tie.Need-cast-t7
-cast-t7 c = search needs
-
 returns : tie.Need-returns
 returns c = record { value-is = refl; opacity-is = refl; band-is = of-kernel (c .before .before) }
 
 pub given-row-spec : {M : Type 1} → statement M
-given-row-spec = tie.close (tie.spec band-of-requires cast-t6 cast-t7 returns)
+given-row-spec = tie.close (tie.spec (λ c κs. search needs) (λ c. search needs) (λ c. search needs) returns)

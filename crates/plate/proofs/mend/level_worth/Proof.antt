@@ -5,9 +5,6 @@ use Rattle.plate.proofs.mending.Gives.{matte-small, light-small}
 use Rattle.plate.proofs.mend.level_worth.Statement.{statement}
 use Rattle.plate.proofs.mend.level_worth.Tie as tie
 
-weight-at-requires : tie.Need-weight-at-requires
-weight-at-requires c κs = search needs
-
 mul-matte : tie.Need-mul-matte
 mul-matte c =
     let s = c .before .before in
@@ -22,4 +19,4 @@ returns : tie.Need-returns
 returns c = rw (c .before .before .weight-at .ensures)
 
 pub level-worth-spec : {M : Type 1} → statement M
-level-worth-spec = tie.close (tie.spec weight-at-requires mul-matte mul-t3 returns)
+level-worth-spec = tie.close (tie.spec (λ c κs. search needs) mul-matte mul-t3 returns)

@@ -52,21 +52,6 @@ reaches c =
       ),
     )
 
-share-of-requires : tie.Need-share-of-requires Inv-loop μ-loop
-share-of-requires c κs = search needs
-
-share-of-requires-2 : tie.Need-share-of-requires-2 Inv-loop μ-loop
-share-of-requires-2 c κs = search needs
-
-reach-requires : tie.Need-reach-requires Inv-loop μ-loop
-reach-requires c κs = search needs
-
-reach-requires-2 : tie.Need-reach-requires-2 Inv-loop μ-loop
-reach-requires-2 c κs = search needs
-
-greater-requires : tie.Need-greater-requires Inv-loop μ-loop
-greater-requires c κs = search needs
-
 add-stretch-around : tie.Need-add-stretch-around Inv-loop μ-loop
 add-stretch-around c = omega (arith, reaches c .2)
 
@@ -134,11 +119,11 @@ mend-spec =
     (tie.spec
     Inv-loop
     μ-loop
-    share-of-requires
-    share-of-requires-2
-    reach-requires
-    reach-requires-2
-    greater-requires
+    (λ c κs. search needs)
+    (λ c κs. search needs)
+    (λ c κs. search needs)
+    (λ c κs. search needs)
+    (λ c κs. search needs)
     add-stretch-around
     stretch-around-requires
     loop-holds

@@ -47,9 +47,6 @@ mul-places : tie.Need-mul-places Inv-loop μ-loop
 mul-places c =
     let pre = c .before .before .before .before .pre in omega (arith, pre .ready .lawful .places-top)
 
-greater-requires : tie.Need-greater-requires Inv-loop μ-loop
-greater-requires c κs = search needs
-
 stretch-around-requires : tie.Need-stretch-around-requires Inv-loop μ-loop
 stretch-around-requires c κs =
     let s = c .before .before .before .before .before in (
@@ -66,9 +63,6 @@ mul-place c = omega (arith, place-in (c .before))
 
 add-place : tie.Need-add-place Inv-loop μ-loop
 add-place c = omega (arith, place-in (c .before))
-
-distance-requires : tie.Need-distance-requires Inv-loop μ-loop
-distance-requires c κs = search needs
 
 mend-cell-requires : tie.Need-mend-cell-requires Inv-loop μ-loop
 mend-cell-requires c κs =
@@ -126,12 +120,12 @@ mend-cells-spec =
     Inv-loop
     μ-loop
     mul-places
-    greater-requires
+    (λ c κs. search needs)
     stretch-around-requires
     loop-holds
     mul-place
     add-place
-    distance-requires
+    (λ c κs. search needs)
     mend-cell-requires
     add-column
     loop-less

@@ -23,21 +23,6 @@ row-ready c =
       new-is = rw (← far) (c .given-row2 .ensures);
     }
 
-distance-requires : tie.Need-distance-requires
-distance-requires c κs = search needs
-
-given-row-requires : tie.Need-given-row-requires
-given-row-requires c κs = search needs
-
-given-row-requires-2 : tie.Need-given-row-requires-2
-given-row-requires-2 c κs = search needs
-
-is-level-requires : tie.Need-is-level-requires
-is-level-requires c κs = search needs
-
-is-level-requires-2 : tie.Need-is-level-requires-2
-is-level-requires-2 c κs = search needs
-
 mend-runs-requires : tie.Need-mend-runs-requires
 mend-runs-requires c κs =
     let second = c .before .before .before in
@@ -46,49 +31,25 @@ mend-runs-requires c κs =
       (sym (first .before .is-level .ensures) ∙ first .if1 .taken, sym (second .before .is-level2 .ensures) ∙ second .if2 .taken),
     )
 
-same-length : tie.Need-same-length
-same-length c = search needs
-
-same-length-2 : tie.Need-same-length-2
-same-length-2 c = search needs
-
-same-length-3 : tie.Need-same-length-3
-same-length-3 c = search needs
-
-returns : tie.Need-returns
-returns c = search needs
-
 mend-cells-requires : tie.Need-mend-cells-requires
 mend-cells-requires c κs = row-ready (c .before .before .before .before .before)
-
-same-length-4 : tie.Need-same-length-4
-same-length-4 c = search needs
-
-same-length-5 : tie.Need-same-length-5
-same-length-5 c = search needs
-
-same-length-6 : tie.Need-same-length-6
-same-length-6 c = search needs
-
-returns-2 : tie.Need-returns-2
-returns-2 c = search needs
 
 pub mend-row-spec : {M : Type 1} → statement M
 mend-row-spec =
     tie.close
     (tie.spec
-    distance-requires
-    given-row-requires
-    given-row-requires-2
-    is-level-requires
-    is-level-requires-2
+    (λ c κs. search needs)
+    (λ c κs. search needs)
+    (λ c κs. search needs)
+    (λ c κs. search needs)
+    (λ c κs. search needs)
     mend-runs-requires
-    same-length
-    same-length-2
-    same-length-3
-    returns
+    (λ c. search needs)
+    (λ c. search needs)
+    (λ c. search needs)
+    (λ c. search needs)
     mend-cells-requires
-    same-length-4
-    same-length-5
-    same-length-6
-    returns-2)
+    (λ c. search needs)
+    (λ c. search needs)
+    (λ c. search needs)
+    (λ c. search needs))

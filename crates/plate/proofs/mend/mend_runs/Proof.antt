@@ -23,9 +23,6 @@ places-low s = s .pre .0 .ready .lawful .places-top
 row-low : (s : tie.Start) → let a = s .args in a .row * a .size .width + a .size .width ≤ a .size .width * a .size .height
 row-low s = let a = s .args in row-in (a .row) (a .size .width) (a .size .height) (s .pre .0 .row-in)
 
-mul-places : tie.Need-mul-places
-mul-places c = search needs
-
 mul-start : tie.Need-mul-start
 mul-start c = let s = c .before .before .before .before in omega (arith, row-low s, places-low s)
 
@@ -44,9 +41,6 @@ level-worth-requires c κs =
     let s = c .before .before .before .before .before .before .before in
     gives-few _ _ _ _ (s .pre .0 .ready .old-fits) (s .pre .0 .old-is)
 
-opposite-requires : tie.Need-opposite-requires
-opposite-requires c κs = search needs
-
 give-run-requires : tie.Need-give-run-requires
 give-run-requires c κs =
     let s = c .before .before .before .before .before .before .before .before .before in
@@ -62,9 +56,6 @@ give-run-requires-2 c κs =
     let s = c .before .before .before .before .before .before .before .before .before .before .before .before .before .before in
     run-in _ _ _ _ _ _ (s .pre .0) _ _ (c .before .before .before .before .before .before .before .before .stretch-around2 .ensures) _
     (c .before .before .before .before .give-run .ensures .same ∙ s .pre .0 .ready .sums-are)
-
-greater-requires : tie.Need-greater-requires
-greater-requires c κs = search needs
 
 stretch-around-requires-3 : tie.Need-stretch-around-requires-3
 stretch-around-requires-3 c κs =
@@ -89,9 +80,6 @@ wide-in c =
 add-first : tie.Need-add-first
 add-first c = let made = c .before in omega (arith, wide-in made .0, places-low (start made))
 
-less-requires : tie.Need-less-requires
-less-requires c κs = search needs
-
 add-round-row : tie.Need-add-round-row
 add-round-row c =
     let made = c .before .before .before .before .before in omega (arith, wide-in made .0, places-low (start made))
@@ -110,15 +98,6 @@ round-row-requires c κs =
       light-in = omega (arith, w .0, w .1, count, one, two, s .pre .0 .ready .sums-are);
       matte-in = omega (arith, w .0, w .1, count, one, two, s .pre .0 .ready .sums-are);
     }
-
-same-length : tie.Need-same-length
-same-length c = search needs
-
-same-length-2 : tie.Need-same-length-2
-same-length-2 c = search needs
-
-same-length-3 : tie.Need-same-length-3
-same-length-3 c = search needs
 
 returns : tie.Need-returns
 returns c =
@@ -153,22 +132,22 @@ pub mend-runs-spec : {M : Type 1} → statement M
 mend-runs-spec =
     tie.close
     (tie.spec
-    mul-places
+    (λ c. search needs)
     mul-start
     stretch-around-requires
     stretch-around-requires-2
     level-worth-requires
-    opposite-requires
+    (λ c κs. search needs)
     give-run-requires
     level-worth-requires-2
     give-run-requires-2
-    greater-requires
+    (λ c κs. search needs)
     stretch-around-requires-3
     add-first
-    less-requires
+    (λ c κs. search needs)
     add-round-row
     round-row-requires
-    same-length
-    same-length-2
-    same-length-3
+    (λ c. search needs)
+    (λ c. search needs)
+    (λ c. search needs)
     returns)

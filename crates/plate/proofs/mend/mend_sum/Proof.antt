@@ -5,15 +5,9 @@ use Rattle.kernels_model.specs.Mark.{minus}
 use Rattle.plate.proofs.mend.mend_sum.Statement.{statement}
 use Rattle.plate.proofs.mend.mend_sum.Tie as tie
 
-wrapping-sub-u64-requires : tie.Need-wrapping-sub-u64-requires
-wrapping-sub-u64-requires c κs = search needs
-
-wrapping-add-u64-requires : tie.Need-wrapping-add-u64-requires
-wrapping-add-u64-requires c κs = search needs
-
 returns : tie.Need-returns
 unfolding minus
 returns c = omega (arith, c .wrapping-add-u64 .ensures, c .before .wrapping-sub-u64 .ensures)
 
 pub mend-sum-spec : {M : Type 1} → statement M
-mend-sum-spec = tie.close (tie.spec wrapping-sub-u64-requires wrapping-add-u64-requires returns)
+mend-sum-spec = tie.close (tie.spec (λ c κs. search needs) (λ c κs. search needs) returns)

@@ -46,9 +46,6 @@ mul-wrapping-add-u64-2 c = let start = c .before .before in omega (arith, start 
 shared-slice-read-wrapping-add-u64 : tie.Need-shared-slice-read-wrapping-add-u64
 shared-slice-read-wrapping-add-u64 c = let start = c .before .before .before in omega (arith, start .pre, start .good)
 
-wrapping-add-u64-requires : tie.Need-wrapping-add-u64-requires
-wrapping-add-u64-requires c κs = search needs
-
 add-to-requires : tie.Need-add-to-requires
 add-to-requires c κs = let start = c .before .before .before .before .before in omega (arith, start .pre, start .good)
 
@@ -63,9 +60,6 @@ mul-add-three-2 c = let start = first (c .before .before) in omega (arith, start
 
 shared-slice-read-add-three : tie.Need-shared-slice-read-add-three
 shared-slice-read-add-three c = let start = first (c .before .before .before) in omega (arith, start .pre, start .good)
-
-add-three-requires : tie.Need-add-three-requires
-add-three-requires c κs = search needs
 
 add-to-requires-2 : tie.Need-add-to-requires-2
 add-to-requires-2 c κs =
@@ -84,12 +78,6 @@ mul-add-three-4 c = let start = first (then (c .before .before)) in omega (arith
 shared-slice-read-add-three-2 : tie.Need-shared-slice-read-add-three-2
 shared-slice-read-add-three-2 c = let start = first (then (c .before .before .before)) in omega (arith, start .pre, start .good)
 
-add-three-requires-2 : tie.Need-add-three-requires-2
-add-three-requires-2 c κs = search needs
-
-same-length : tie.Need-same-length
-same-length c = search needs
-
 returns : tie.Need-returns
 returns c =
     let second-down = c .before .before .before .before in
@@ -107,18 +95,18 @@ add-boxes-spec =
     add-wrapping-add-u64
     mul-wrapping-add-u64-2
     shared-slice-read-wrapping-add-u64
-    wrapping-add-u64-requires
+    (λ c κs. search needs)
     add-to-requires
     mul-add-three
     add-add-three
     mul-add-three-2
     shared-slice-read-add-three
-    add-three-requires
+    (λ c κs. search needs)
     add-to-requires-2
     mul-add-three-3
     add-add-three-2
     mul-add-three-4
     shared-slice-read-add-three-2
-    add-three-requires-2
-    same-length
+    (λ c κs. search needs)
+    (λ c. search needs)
     returns)

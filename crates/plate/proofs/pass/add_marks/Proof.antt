@@ -28,9 +28,6 @@ mul-wrapping-add-u64-2 c = let start = c .before .before .before in omega (arith
 shared-slice-read-wrapping-add-u64 : tie.Need-shared-slice-read-wrapping-add-u64
 shared-slice-read-wrapping-add-u64 c = let start = c .before .before .before .before in omega (arith, start .pre, start .good)
 
-wrapping-add-u64-requires : tie.Need-wrapping-add-u64-requires
-wrapping-add-u64-requires c κs = search needs
-
 mul-wrapping-add-u64-3 : tie.Need-mul-wrapping-add-u64-3
 mul-wrapping-add-u64-3 c = let start = first c in omega (arith, start .pre, start .good)
 
@@ -43,9 +40,6 @@ mul-wrapping-add-u64-4 c = let start = first (c .before) in omega (arith, start 
 shared-slice-read-wrapping-add-u64-2 : tie.Need-shared-slice-read-wrapping-add-u64-2
 shared-slice-read-wrapping-add-u64-2 c = let start = first (c .before .before) in omega (arith, start .pre, start .good)
 
-wrapping-add-u64-requires-2 : tie.Need-wrapping-add-u64-requires-2
-wrapping-add-u64-requires-2 c κs = search needs
-
 mul-scratch : tie.Need-mul-scratch
 mul-scratch c = let start = first (c .before .before .before) in omega (arith, start .pre, start .good)
 
@@ -57,12 +51,6 @@ mul-scratch-2 c = let start = first (c .before .before .before) in omega (arith,
 
 slice-write-scratch-2 : tie.Need-slice-write-scratch-2
 slice-write-scratch-2 c = let start = first (c .before .before .before) in simp length-set (omega (arith, start .pre))
-
-wrapping-add-u64-requires-3 : tie.Need-wrapping-add-u64-requires-3
-wrapping-add-u64-requires-3 c κs = search needs
-
-same-length : tie.Need-same-length
-same-length c = search needs
 
 returns : tie.Need-returns
 returns c =
@@ -78,16 +66,16 @@ add-marks-spec =
     slice-read-wrapping-add-u64
     mul-wrapping-add-u64-2
     shared-slice-read-wrapping-add-u64
-    wrapping-add-u64-requires
+    (λ c κs. search needs)
     mul-wrapping-add-u64-3
     slice-read-wrapping-add-u64-2
     mul-wrapping-add-u64-4
     shared-slice-read-wrapping-add-u64-2
-    wrapping-add-u64-requires-2
+    (λ c κs. search needs)
     mul-scratch
     slice-write-scratch
     mul-scratch-2
     slice-write-scratch-2
-    wrapping-add-u64-requires-3
-    same-length
+    (λ c κs. search needs)
+    (λ c. search needs)
     returns)

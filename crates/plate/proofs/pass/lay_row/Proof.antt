@@ -78,9 +78,6 @@ loop-again c =
           (test .loop-test .taken) (turn .inv .1) (laid .add-marks .ensures),
     )
 
-same-length : tie.Need-same-length Inv-loop μ-loop
-same-length c = search needs
-
 returns : tie.Need-returns Inv-loop μ-loop
 returns c = writing-all _ _ _ _ _ _ (c .before .loop .x) (omega arith) (c .before .loop .inv .1)
 
@@ -102,5 +99,5 @@ lay-row-spec =
     add-x
     loop-less
     loop-again
-    same-length
+    (λ c. search needs)
     returns)

@@ -5,9 +5,6 @@ use borrow.Author.Needs.{needs}
 use Rattle.plate.proofs.pass.matte_after.Statement.{statement}
 use Rattle.plate.proofs.pass.matte_after.Tie as tie
 
-starts-at-requires : tie.Need-starts-at-requires
-starts-at-requires c κs = search needs
-
 add-t3 : tie.Need-add-t3
 unfolding startsAt
 add-t3 c = rw (c .before .before .starts-at .ensures) (omega arith)
@@ -25,4 +22,4 @@ unfolding startsAt
 returns c = rw (c .before .before .before .before .starts-at .ensures)
 
 pub matte-after-spec : {M : Type 1} → statement M
-matte-after-spec = tie.close (tie.spec starts-at-requires add-t3 mul-t4 add-t5 returns)
+matte-after-spec = tie.close (tie.spec (λ c κs. search needs) add-t3 mul-t4 add-t5 returns)

@@ -64,9 +64,6 @@ ready c =
           cleared-in _ _ _ _ (end-past (made c)) (end-in (made c)) (c .clear .ensures) j f (omega (arith, end-is (made c)));
     }
 
-starts-at-requires : tie.Need-starts-at-requires Inv-loop μ-loop
-starts-at-requires c κs = search needs
-
 add-end : tie.Need-add-end Inv-loop μ-loop
 add-end c = omega (arith, end-in (c .before .before))
 
@@ -82,26 +79,14 @@ part-clear-start c = end-past (c .before .before)
 part-clear-end : tie.Need-part-clear-end Inv-loop μ-loop
 part-clear-end c = end-in (c .before .before)
 
-clear-requires : tie.Need-clear-requires Inv-loop μ-loop
-clear-requires c κs = search needs
-
 loop-holds : tie.Need-loop-holds Inv-loop μ-loop
 loop-holds c = (search needs, laid-start _ _ _ (ready (c .before .before)))
-
-sub-row : tie.Need-sub-row Inv-loop μ-loop
-sub-row c = search needs
-
-starts-at-requires-2 : tie.Need-starts-at-requires-2 Inv-loop μ-loop
-starts-at-requires-2 c κs = search needs
 
 lay-row-requires : tie.Need-lay-row-requires Inv-loop μ-loop
 lay-row-requires c κs =
     let turn = c .before .before .before .loop in
     let same = only-sums (c .before .before .before .before .before .before) .same in
     rw (c .starts-at2 .ensures) (in-order _ _ _ _ (omega arith) (omega arith) (omega (arith, turn .inv .1 .same, same)) (omega arith))
-
-loop-less : tie.Need-loop-less Inv-loop μ-loop
-loop-less c = search needs
 
 loop-again : tie.Need-loop-again Inv-loop μ-loop
 loop-again c =
@@ -113,9 +98,6 @@ loop-again c =
       laid-next _ _ _ (turn .scratch) _ (turn .row - 1) (pre .some) (pre .narrow) (omega arith) (rw (← e) at (turn .inv .1))
           (rw (laid .before .starts-at2 .ensures) at (laid .lay-row .ensures)),
     )
-
-same-length : tie.Need-same-length Inv-loop μ-loop
-same-length c = search needs
 
 returns : tie.Need-returns Inv-loop μ-loop
 returns c =
@@ -130,18 +112,18 @@ start-sums-spec =
     (tie.spec
     Inv-loop
     μ-loop
-    starts-at-requires
+    (λ c κs. search needs)
     add-end
     mul-clear
     sub-clear
     part-clear-start
     part-clear-end
-    clear-requires
+    (λ c κs. search needs)
     loop-holds
-    sub-row
-    starts-at-requires-2
+    (λ c. search needs)
+    (λ c κs. search needs)
     lay-row-requires
-    loop-less
+    (λ c. search needs)
     loop-again
-    same-length
+    (λ c. search needs)
     returns)

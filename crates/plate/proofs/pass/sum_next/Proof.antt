@@ -6,14 +6,8 @@ use Rattle.plate.proofs.showing.NextRow.{summed-next}
 use Rattle.plate.proofs.pass.sum_next.Statement.{statement}
 use Rattle.plate.proofs.pass.sum_next.Tie as tie
 
-starts-at-requires : tie.Need-starts-at-requires
-starts-at-requires c κs = search needs
-
 sum-row-requires : tie.Need-sum-row-requires
 sum-row-requires c κs = rw (c .starts-at .ensures) (in-order _ _ _ _ (omega arith) (omega arith) (omega arith) (omega arith))
-
-same-length : tie.Need-same-length
-same-length c = search needs
 
 returns : tie.Need-returns
 returns c =
@@ -22,4 +16,4 @@ returns c =
     summed-next _ _ _ _ _ (start .pre) (rw (summed .before .starts-at .ensures) at (summed .sum-row .ensures))
 
 pub sum-next-spec : {M : Type 1} → statement M
-sum-next-spec = tie.close (tie.spec starts-at-requires sum-row-requires same-length returns)
+sum-next-spec = tie.close (tie.spec (λ c κs. search needs) sum-row-requires (λ c. search needs) returns)

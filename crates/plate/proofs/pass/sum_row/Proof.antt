@@ -122,9 +122,6 @@ take-marks-off-requires c κs =
 add-add-to : tie.Need-add-add-to Inv-loop μ-loop
 add-add-to c = let test = boxed (fallen (risen (c .before .before .before))) in omega (arith, here test, fits test)
 
-add-three-requires : tie.Need-add-three-requires Inv-loop μ-loop
-add-three-requires c κs = search needs
-
 add-to-requires : tie.Need-add-to-requires Inv-loop μ-loop
 add-to-requires c κs =
     let rising = c .before .before .before in
@@ -157,9 +154,6 @@ loop-again c =
           (down .before .add-three .ensures) (down .add-to .ensures),
     )
 
-same-length : tie.Need-same-length Inv-loop μ-loop
-same-length c = search needs
-
 returns : tie.Need-returns Inv-loop μ-loop
 returns c = writing-all _ _ _ _ _ _ (c .before .loop .x) (omega arith) (c .before .loop .inv .1 .row)
 
@@ -189,10 +183,10 @@ sum-row-spec =
     add-take-marks-off-2
     take-marks-off-requires
     add-add-to
-    add-three-requires
+    (λ c κs. search needs)
     add-to-requires
     add-x
     loop-less
     loop-again
-    same-length
+    (λ c. search needs)
     returns)

@@ -1,7 +1,7 @@
 -- `pass::take_marks_off` meets its contract: what is left of a line, with its mark put back, is what was.
 use mathlib.Core.Path.{_≡_}
 use mathlib.Core.List.{List}
-use Prim.Native.Nat.{ℕ, _+_, _-_, _%_, _^_, _<_}
+use Prim.Native.Nat.{ℕ, _+_, _%_, _^_, _<_}
 use native.Mathlib.Omega.{arith}
 use lib.ListN.{getD, set, length-set}
 use borrow.Author.Needs.{needs}
@@ -37,9 +37,6 @@ mul-wrapping-sub-u64 c = let start = c .before .before .before .before in omega 
 shared-slice-read-wrapping-sub-u64 : tie.Need-shared-slice-read-wrapping-sub-u64
 shared-slice-read-wrapping-sub-u64 c = let start = c .before .before .before .before .before in omega (arith, start .pre, start .good)
 
-wrapping-sub-u64-requires : tie.Need-wrapping-sub-u64-requires
-wrapping-sub-u64-requires c κs = search needs
-
 mul-scratch : tie.Need-mul-scratch
 mul-scratch c = let start = first c in omega (arith, start .pre, start .good)
 
@@ -52,20 +49,11 @@ mul-wrapping-sub-u64-2 c = let start = first c in omega (arith, start .pre, star
 shared-slice-read-wrapping-sub-u64-2 : tie.Need-shared-slice-read-wrapping-sub-u64-2
 shared-slice-read-wrapping-sub-u64-2 c = let start = first (c .before) in omega (arith, start .pre, start .good)
 
-wrapping-sub-u64-requires-2 : tie.Need-wrapping-sub-u64-requires-2
-wrapping-sub-u64-requires-2 c κs = search needs
-
 mul-scratch-2 : tie.Need-mul-scratch-2
 mul-scratch-2 c = let start = first (c .before .before) in omega (arith, start .pre, start .good)
 
 slice-write-scratch-2 : tie.Need-slice-write-scratch-2
 slice-write-scratch-2 c = let start = first (c .before .before) in simp length-set (omega (arith, start .pre))
-
-wrapping-add-u64-requires : tie.Need-wrapping-add-u64-requires
-wrapping-add-u64-requires c κs = search needs
-
-same-length : tie.Need-same-length
-same-length c = search needs
 
 returns : tie.Need-returns
 returns c =
@@ -84,14 +72,14 @@ take-marks-off-spec =
     slice-read-held-two
     mul-wrapping-sub-u64
     shared-slice-read-wrapping-sub-u64
-    wrapping-sub-u64-requires
+    (λ c κs. search needs)
     mul-scratch
     slice-write-scratch
     mul-wrapping-sub-u64-2
     shared-slice-read-wrapping-sub-u64-2
-    wrapping-sub-u64-requires-2
+    (λ c κs. search needs)
     mul-scratch-2
     slice-write-scratch-2
-    wrapping-add-u64-requires
-    same-length
+    (λ c κs. search needs)
+    (λ c. search needs)
     returns)

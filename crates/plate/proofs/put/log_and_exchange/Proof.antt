@@ -35,18 +35,6 @@ add-accepted : tie.Need-add-accepted
 add-accepted c =
     let s = start (packed (c .before .before .before .before)) in omega (arith, s .pre .has-room, s .good)
 
-accepted-requires : tie.Need-accepted-requires
-accepted-requires c κs = search needs
-
-same-length : tie.Need-same-length
-same-length c = search needs
-
-same-length-2 : tie.Need-same-length-2
-same-length-2 c = search needs
-
-same-length-3 : tie.Need-same-length-3
-same-length-3 c = search needs
-
 returns : tie.Need-returns
 unfolding putBy changed
 returns c =
@@ -65,8 +53,8 @@ log-and-exchange-spec =
     slice-write-log
     exchange-requires
     add-accepted
-    accepted-requires
-    same-length
-    same-length-2
-    same-length-3
+    (λ c κs. search needs)
+    (λ c. search needs)
+    (λ c. search needs)
+    (λ c. search needs)
     returns)

@@ -28,31 +28,10 @@ reads : (c : tie.After-change)
     putRead (s .args .state) (asked s) (sizedAs (held s)) (held s .pixels) ≡ ToChange (c .change .given .0 .0)
 reads c = sym (c .before .before .read-put .ensures) ∙ c .change .given .1
 
-read-put-requires : tie.Need-read-put-requires
-read-put-requires c κs = search needs
-
-enum-known-change : tie.Need-enum-known-change
-enum-known-change c = search needs
-
 log-and-exchange-requires : tie.Need-log-and-exchange-requires
 log-and-exchange-requires c κs =
     let change = c .before .before .before .before in
     put-ready _ _ _ (omega (arith, start (change .before .before) .good)) _ (reads change)
-
-enum-known-why : tie.Need-enum-known-why
-enum-known-why c = search needs
-
-refused-requires : tie.Need-refused-requires
-refused-requires c κs = search needs
-
-same-length : tie.Need-same-length
-same-length c = search needs
-
-same-length-2 : tie.Need-same-length-2
-same-length-2 c = search needs
-
-same-length-3 : tie.Need-same-length-3
-same-length-3 c = search needs
 
 returns : tie.Need-returns
 unfolding putCall
@@ -60,9 +39,6 @@ returns c =
     let made = c .before .before .before .before .before .before in
     let change = made .before .before .before .before .before in
     rw (reads change) (made .log-and-exchange .ensures)
-
-same-length-4 : tie.Need-same-length-4
-same-length-4 c = search needs
 
 returns-2 : tie.Need-returns-2
 unfolding putCall putBy
@@ -74,14 +50,14 @@ pub put-spec : {M : Type 1} → statement M
 put-spec =
     tie.close
     (tie.spec
-    read-put-requires
-    enum-known-change
+    (λ c κs. search needs)
+    (λ c. search needs)
     log-and-exchange-requires
-    enum-known-why
-    refused-requires
-    same-length
-    same-length-2
-    same-length-3
+    (λ c. search needs)
+    (λ c κs. search needs)
+    (λ c. search needs)
+    (λ c. search needs)
+    (λ c. search needs)
     returns
-    same-length-4
+    (λ c. search needs)
     returns-2)

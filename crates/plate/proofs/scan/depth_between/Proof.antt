@@ -56,15 +56,6 @@ mul-lies-between c = omega (arith, row (c .before .before .before))
 shared-slice-read-lies-between : tie.Need-shared-slice-read-lies-between Inv-loop μ-loop Inv-rows μ-rows
 shared-slice-read-lies-between c = omega (arith, row (c .before .before .before .before))
 
-lies-between-requires : tie.Need-lies-between-requires Inv-loop μ-loop Inv-rows μ-rows
-lies-between-requires c κs = search needs
-
-add-x : tie.Need-add-x Inv-loop μ-loop Inv-rows μ-rows
-add-x c = search needs
-
-loop-less : tie.Need-loop-less Inv-loop μ-loop Inv-rows μ-rows
-loop-less c = search needs
-
 loop-again : tie.Need-loop-again Inv-loop μ-loop Inv-rows μ-rows
 loop-again c =
     let asked = c .before in
@@ -75,12 +66,6 @@ loop-again c =
       (λ i l. below-more _ _ (turn .2) (sym (told .0) ∙ c .if1 .left) i (omega arith)),
       λ i l. below-more _ _ (turn .3) (told .1) i (omega arith),
     )
-
-add-y : tie.Need-add-y Inv-loop μ-loop Inv-rows μ-rows
-add-y c = search needs
-
-rows-less : tie.Need-rows-less Inv-loop μ-loop Inv-rows μ-rows
-rows-less c = search needs
 
 rows-again : tie.Need-rows-again Inv-loop μ-loop Inv-rows μ-rows
 rows-again c =
@@ -129,12 +114,12 @@ depth-between-spec =
     add-lies-between
     mul-lies-between
     shared-slice-read-lies-between
-    lies-between-requires
-    add-x
-    loop-less
+    (λ c κs. search needs)
+    (λ c. search needs)
+    (λ c. search needs)
     loop-again
-    add-y
-    rows-less
+    (λ c. search needs)
+    (λ c. search needs)
     rows-again
     returns
     returns-2)

@@ -54,22 +54,10 @@ mul-if1 c = omega (arith, row (c .before .before .before))
 shared-slice-read-if1 : tie.Need-shared-slice-read-if1 Inv-loop μ-loop Inv-rows μ-rows
 shared-slice-read-if1 c = omega (arith, row (c .before .before .before .before))
 
-add-x : tie.Need-add-x Inv-loop μ-loop Inv-rows μ-rows
-add-x c = search needs
-
-loop-less : tie.Need-loop-less Inv-loop μ-loop Inv-rows μ-rows
-loop-less c = search needs
-
 loop-again : tie.Need-loop-again Inv-loop μ-loop Inv-rows μ-rows
 loop-again c =
     let turn = c .before .before .before .loop in
     (omega arith, turn .inv .1, λ i l. below-more _ _ (turn .inv .2) (le-ltb _ _ (c .if1 .left)) i (omega arith))
-
-add-y : tie.Need-add-y Inv-loop μ-loop Inv-rows μ-rows
-add-y c = search needs
-
-rows-less : tie.Need-rows-less Inv-loop μ-loop Inv-rows μ-rows
-rows-less c = search needs
 
 rows-again : tie.Need-rows-again Inv-loop μ-loop Inv-rows μ-rows
 rows-again c =
@@ -110,11 +98,11 @@ value-above-spec =
     add-if1
     mul-if1
     shared-slice-read-if1
-    add-x
-    loop-less
+    (λ c. search needs)
+    (λ c. search needs)
     loop-again
-    add-y
-    rows-less
+    (λ c. search needs)
+    (λ c. search needs)
     rows-again
     returns
     returns-2)

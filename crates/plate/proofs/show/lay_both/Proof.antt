@@ -8,20 +8,11 @@ use Rattle.plate.proofs.show.lay_both.Tie as tie
 abbrev start : tie.After-matte-after → tie.Start
 start c = c .before .before .before
 
-matte-after-requires : tie.Need-matte-after-requires
-matte-after-requires c κs = search needs
-
-start-sums-requires : tie.Need-start-sums-requires
-start-sums-requires c κs = search needs
-
 start-sums-requires-2 : tie.Need-start-sums-requires-2
 start-sums-requires-2 c κs =
     let one = c .before .before .before in
     let made = one .before .before in
     rw (made .matte-after .ensures) (matte-in _ _ _ (start made .pre) _ (one .start-sums .ensures .only .same))
-
-same-length : tie.Need-same-length
-same-length c = search needs
 
 returns : tie.Need-returns
 returns c =
@@ -34,4 +25,4 @@ returns c =
 pub lay-both-spec : {M : Type 1} → statement M
 lay-both-spec =
     tie.close
-    (tie.spec matte-after-requires start-sums-requires start-sums-requires-2 same-length returns)
+    (tie.spec (λ c κs. search needs) (λ c κs. search needs) start-sums-requires-2 (λ c. search needs) returns)

@@ -54,17 +54,11 @@ mul-shown-value c = omega (arith, here (c .before), start (c .before) .good)
 shared-slice-read-shown-value : tie.Need-shared-slice-read-shown-value Inv-loop μ-loop
 shared-slice-read-shown-value c = omega (arith, here (c .before .before), start (c .before .before) .good)
 
-shown-value-requires : tie.Need-shown-value-requires Inv-loop μ-loop
-shown-value-requires c κs = search needs
-
 mul-values : tie.Need-mul-values Inv-loop μ-loop
 mul-values c = omega (arith, here (c .before .before .before), start (c .before .before .before) .good)
 
 slice-write-values : tie.Need-slice-write-values Inv-loop μ-loop
 slice-write-values c = omega (arith, here (c .before .before .before), start (c .before .before .before) .good)
-
-shown-matte-requires : tie.Need-shown-matte-requires Inv-loop μ-loop
-shown-matte-requires c κs = search needs
 
 slice-write-mattes : tie.Need-slice-write-mattes Inv-loop μ-loop
 slice-write-mattes c = omega (arith, here (c .before .before .before .before), start (c .before .before .before .before) .good)
@@ -85,12 +79,6 @@ loop-again c =
       writing-one _ _ _ _ (turn .values) (turn .x) _ (test .loop-test .taken) (pre .values-in) (turn .inv .1) (valued .shown-value .ensures),
       writing-one _ _ _ _ (turn .mattes) (turn .x) _ (test .loop-test .taken) (pre .mattes-in) (turn .inv .2) (c .shown-matte .ensures),
     )
-
-same-length : tie.Need-same-length Inv-loop μ-loop
-same-length c = search needs
-
-same-length-2 : tie.Need-same-length-2 Inv-loop μ-loop
-same-length-2 c = search needs
 
 returns : tie.Need-returns Inv-loop μ-loop
 returns c =
@@ -114,14 +102,14 @@ round-row-spec =
     add-shown-value
     mul-shown-value
     shared-slice-read-shown-value
-    shown-value-requires
+    (λ c κs. search needs)
     mul-values
     slice-write-values
-    shown-matte-requires
+    (λ c κs. search needs)
     slice-write-mattes
     add-x
     loop-less
     loop-again
-    same-length
-    same-length-2
+    (λ c. search needs)
+    (λ c. search needs)
     returns)

@@ -20,30 +20,12 @@ passed : (c : tie.After-enum-told)
     ≡ Accepted
 passed c = sym (c .before .before .check-show .ensures) ∙ c .enum-told .given .1
 
-check-show-requires : tie.Need-check-show-requires
-check-show-requires c κs = search needs
-
-enum-told : tie.Need-enum-told
-enum-told c = search needs
-
-enum-told-2 : tie.Need-enum-told-2
-enum-told-2 c = search needs
-
 returns : tie.Need-returns
 unfolding showCall showBy
 returns c = let told = c .enum-told2 .given .1 in rw (told, sym (c .before .before .check-show .ensures) ∙ told)
 
 show-all-requires : tie.Need-show-all-requires
 show-all-requires c κs = show-ready _ _ _ _ _ (passed (c .before .before .before))
-
-same-length : tie.Need-same-length
-same-length c = search needs
-
-same-length-2 : tie.Need-same-length-2
-same-length-2 c = search needs
-
-same-length-3 : tie.Need-same-length-3
-same-length-3 c = search needs
 
 returns-2 : tie.Need-returns-2
 unfolding showCall
@@ -55,12 +37,12 @@ pub show-spec : {M : Type 1} → statement M
 show-spec =
     tie.close
     (tie.spec
-    check-show-requires
-    enum-told
-    enum-told-2
+    (λ c κs. search needs)
+    (λ c. search needs)
+    (λ c. search needs)
     returns
     show-all-requires
-    same-length
-    same-length-2
-    same-length-3
+    (λ c. search needs)
+    (λ c. search needs)
+    (λ c. search needs)
     returns-2)

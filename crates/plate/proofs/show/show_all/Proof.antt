@@ -1,6 +1,5 @@
 -- `show::show_all` meets its contract: the rows of the image show the finished sums, and the scratch is cleared at the end.
 use mathlib.Core.Path.{ap}
-use Prim.Native.Nat.{_-_}
 use native.Mathlib.Omega.{arith}
 use borrow.Author.Needs.{needs}
 use Rattle.plate.specs.Passes.{Picture}
@@ -43,18 +42,6 @@ show-rows-requires c κs =
       mattes-are = start made .pre .mattes-are;
     }
 
-clear-requires : tie.Need-clear-requires
-clear-requires c κs = search needs
-
-same-length : tie.Need-same-length
-same-length c = search needs
-
-same-length-2 : tie.Need-same-length-2
-same-length-2 c = search needs
-
-same-length-3 : tie.Need-same-length-3
-same-length-3 c = search needs
-
 returns : tie.Need-returns
 returns c =
     let cleared = c .before .before in
@@ -77,8 +64,8 @@ show-all-spec =
     add-t9
     sum-above-requires
     show-rows-requires
-    clear-requires
-    same-length
-    same-length-2
-    same-length-3
+    (λ c κs. search needs)
+    (λ c. search needs)
+    (λ c. search needs)
+    (λ c. search needs)
     returns)

@@ -39,9 +39,6 @@ place-in c = row-in (c .before .loop .row) _ _ (c .loop-test .taken)
 below : (c : tie.In-loop Inv-loop μ-loop) → start (made c) .args .image .first + (c .before .loop .row + 1) < 2 ^ 64
 below c = omega (arith, c .loop-test .taken, start (made c) .pre .rows-in, start (made c) .pre .fits, start (made c) .good)
 
-matte-after-requires : tie.Need-matte-after-requires Inv-loop μ-loop
-matte-after-requires c κs = search needs
-
 sub-light-down : tie.Need-sub-light-down Inv-loop μ-loop
 sub-light-down c = omega (arith, sums-is c, start c .pre .columns-are)
 
@@ -121,15 +118,6 @@ loop-again c =
       },
     )
 
-same-length : tie.Need-same-length Inv-loop μ-loop
-same-length c = search needs
-
-same-length-2 : tie.Need-same-length-2 Inv-loop μ-loop
-same-length-2 c = search needs
-
-same-length-3 : tie.Need-same-length-3 Inv-loop μ-loop
-same-length-3 c = search needs
-
 returns : tie.Need-returns Inv-loop μ-loop
 returns c =
     let turn = c .before .loop in
@@ -142,7 +130,7 @@ show-rows-spec =
     (tie.spec
     Inv-loop
     μ-loop
-    matte-after-requires
+    (λ c κs. search needs)
     sub-light-down
     sub-matte-down
     add-matte-down
@@ -154,7 +142,7 @@ show-rows-spec =
     add-row
     loop-less
     loop-again
-    same-length
-    same-length-2
-    same-length-3
+    (λ c. search needs)
+    (λ c. search needs)
+    (λ c. search needs)
     returns)

@@ -52,9 +52,6 @@ loop-again c =
     let sums = summed .sum-both .ensures in
     (omega (arith, test .loop-test .taken), record { same = sums .same ∙ test .before .loop .inv .1 .same; to = sums .to })
 
-same-length : tie.Need-same-length Inv-loop μ-loop
-same-length c = search needs
-
 returns : tie.Need-returns Inv-loop μ-loop
 returns c =
     let turn = c .before in
@@ -74,5 +71,5 @@ sum-above-spec =
     add-row
     loop-less
     loop-again
-    same-length
+    (λ c. search needs)
     returns)

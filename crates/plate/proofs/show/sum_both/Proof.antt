@@ -5,9 +5,6 @@ use Rattle.plate.proofs.showing.BothPictures.{light-in, matte-in, matte
 use Rattle.plate.proofs.show.sum_both.Statement.{statement}
 use Rattle.plate.proofs.show.sum_both.Tie as tie
 
-matte-after-requires : tie.Need-matte-after-requires
-matte-after-requires c κs = search needs
-
 sum-next-requires : tie.Need-sum-next-requires
 sum-next-requires c κs =
     let start = c .before .before .before .before in
@@ -25,9 +22,6 @@ sum-next-requires-2 c κs =
       to = matte-kept _ _ _ _ _ (omega arith) (omega arith) only (start .pre .to .matte-to);
     })
 
-same-length : tie.Need-same-length
-same-length c = search needs
-
 returns : tie.Need-returns
 returns c =
     let two = c .before .before in
@@ -39,4 +33,4 @@ returns c =
 pub sum-both-spec : {M : Type 1} → statement M
 sum-both-spec =
     tie.close
-    (tie.spec matte-after-requires sum-next-requires sum-next-requires-2 same-length returns)
+    (tie.spec (λ c κs. search needs) sum-next-requires sum-next-requires-2 (λ c. search needs) returns)

@@ -3,11 +3,8 @@ use borrow.Author.Needs.{needs}
 use Rattle.plate.proofs.state.accepted.Statement.{statement}
 use Rattle.plate.proofs.state.accepted.Tie as tie
 
-state-of-requires : tie.Need-state-of-requires
-state-of-requires c κs = search needs
-
 returns : tie.Need-returns
 returns c = rw (c .state-of .ensures)
 
 pub accepted-spec : {M : Type 1} → statement M
-accepted-spec = tie.close (tie.spec state-of-requires returns)
+accepted-spec = tie.close (tie.spec (λ c κs. search needs) returns)

@@ -36,9 +36,6 @@ mul-wrapping-add-u64 c = omega (arith, here c, start c .good)
 shared-slice-read-wrapping-add-u64 : tie.Need-shared-slice-read-wrapping-add-u64 Inv-loop μ-loop
 shared-slice-read-wrapping-add-u64 c = here (c .before)
 
-wrapping-add-u64-requires : tie.Need-wrapping-add-u64-requires Inv-loop μ-loop
-wrapping-add-u64-requires c κs = search needs
-
 add-x : tie.Need-add-x Inv-loop μ-loop
 add-x c = let test = c .before .before in omega (arith, here test, start test .good)
 
@@ -68,7 +65,7 @@ add-cells-spec =
     add-wrapping-add-u64
     mul-wrapping-add-u64
     shared-slice-read-wrapping-add-u64
-    wrapping-add-u64-requires
+    (λ c κs. search needs)
     add-x
     loop-less
     loop-again

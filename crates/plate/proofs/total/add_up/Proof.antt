@@ -37,12 +37,6 @@ down-is c = ap (λ (s : Starts). s .down) (c .starts-at .ensures)
 same-as : (c : tie.At-loop Inv-loop μ-loop) → length (c .loop .scratch) ≡ length (start (c .before) .args .scratch .now)
 same-as c = c .loop .inv .1 .0 .same ∙ laid (c .before) .start-sums .ensures .only .same
 
-start-sums-requires : tie.Need-start-sums-requires Inv-loop μ-loop
-start-sums-requires c κs = search needs
-
-starts-at-requires : tie.Need-starts-at-requires Inv-loop μ-loop
-starts-at-requires c κs = search needs
-
 loop-holds : tie.Need-loop-holds Inv-loop μ-loop
 loop-holds c = (search needs, (added-start _ _ _, laid c .start-sums .ensures .to))
 
@@ -99,8 +93,8 @@ add-up-spec =
     (tie.spec
     Inv-loop
     μ-loop
-    start-sums-requires
-    starts-at-requires
+    (λ c κs. search needs)
+    (λ c κs. search needs)
     loop-holds
     sum-next-requires
     add-cells-requires

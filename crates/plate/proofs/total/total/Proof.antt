@@ -19,24 +19,12 @@ passed : (c : tie.After-enum-told)
     totalCheck (a .state .size) (length (now (a .planes))) (length (now (a .scratch))) ≡ Accepted
 passed c = sym (c .before .before .check-total .ensures) ∙ c .enum-told .given .1
 
-check-total-requires : tie.Need-check-total-requires
-check-total-requires c κs = search needs
-
-enum-told : tie.Need-enum-told
-enum-told c = search needs
-
-enum-told-2 : tie.Need-enum-told-2
-enum-told-2 c = search needs
-
 returns : tie.Need-returns
 unfolding totalCall totalBy
 returns c = let told = c .enum-told2 .given .1 in rw (told, sym (c .before .before .check-total .ensures) ∙ told)
 
 total-all-requires : tie.Need-total-all-requires
 total-all-requires c κs = total-ready _ _ _ (passed (c .before))
-
-same-length : tie.Need-same-length
-same-length c = search needs
 
 returns-2 : tie.Need-returns-2
 unfolding totalCall
@@ -47,4 +35,4 @@ returns-2 c =
 pub total-spec : {M : Type 1} → statement M
 total-spec =
     tie.close
-    (tie.spec check-total-requires enum-told enum-told-2 returns total-all-requires same-length returns-2)
+    (tie.spec (λ c κs. search needs) (λ c. search needs) (λ c. search needs) returns total-all-requires (λ c. search needs) returns-2)

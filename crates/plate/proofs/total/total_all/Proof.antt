@@ -43,12 +43,6 @@ add-up-requires-2 c κs =
     (ready-whole _ _ _ planesEach _ _ (omega arith) (start framed .pre) (framed .frame-of .ensures) (matte-from framed)) _
     (one .add-up .ensures .same)
 
-clear-requires : tie.Need-clear-requires
-clear-requires c κs = search needs
-
-same-length : tie.Need-same-length
-same-length c = search needs
-
 returns : tie.Need-returns
 returns c =
     let cleared = c .before .before in
@@ -64,4 +58,4 @@ returns c =
 pub total-all-spec : {M : Type 1} → statement M
 total-all-spec =
     tie.close
-    (tie.spec frame-of-requires add-up-requires mul-add-up add-up-requires-2 clear-requires same-length returns)
+    (tie.spec frame-of-requires add-up-requires mul-add-up add-up-requires-2 (λ c κs. search needs) (λ c. search needs) returns)

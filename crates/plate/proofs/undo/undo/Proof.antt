@@ -23,29 +23,8 @@ reads : (c : tie.After-change)
     undoRead (s .args .state) (sizedAs (held s)) (held s .pixels) (held s .log) ≡ ToChange (c .change .given .0 .0)
 reads c = sym (c .before .before .read-undo .ensures) ∙ c .change .given .1
 
-read-undo-requires : tie.Need-read-undo-requires
-read-undo-requires c κs = search needs
-
-enum-known-change : tie.Need-enum-known-change
-enum-known-change c = search needs
-
 unlog-and-exchange-requires : tie.Need-unlog-and-exchange-requires
 unlog-and-exchange-requires c κs = undo-ready _ _ _ (reads (c .before .before .before .before))
-
-enum-known-why : tie.Need-enum-known-why
-enum-known-why c = search needs
-
-refused-requires : tie.Need-refused-requires
-refused-requires c κs = search needs
-
-same-length : tie.Need-same-length
-same-length c = search needs
-
-same-length-2 : tie.Need-same-length-2
-same-length-2 c = search needs
-
-same-length-3 : tie.Need-same-length-3
-same-length-3 c = search needs
 
 returns : tie.Need-returns
 unfolding undoCall
@@ -53,12 +32,6 @@ returns c =
     let made = c .before .before .before .before .before .before in
     let change = made .before .before .before .before .before in
     rw (reads change) (made .unlog-and-exchange .ensures)
-
-same-length-4 : tie.Need-same-length-4
-same-length-4 c = search needs
-
-same-length-5 : tie.Need-same-length-5
-same-length-5 c = search needs
 
 returns-2 : tie.Need-returns-2
 unfolding undoCall undoBy
@@ -70,15 +43,15 @@ pub undo-spec : {M : Type 1} → statement M
 undo-spec =
     tie.close
     (tie.spec
-    read-undo-requires
-    enum-known-change
+    (λ c κs. search needs)
+    (λ c. search needs)
     unlog-and-exchange-requires
-    enum-known-why
-    refused-requires
-    same-length
-    same-length-2
-    same-length-3
+    (λ c. search needs)
+    (λ c κs. search needs)
+    (λ c. search needs)
+    (λ c. search needs)
+    (λ c. search needs)
     returns
-    same-length-4
-    same-length-5
+    (λ c. search needs)
+    (λ c. search needs)
     returns-2)

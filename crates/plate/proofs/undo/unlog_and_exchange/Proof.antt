@@ -18,18 +18,6 @@ exchange-requires : tie.Need-exchange-requires
 exchange-requires c κs =
     let h = c .before .before .before .before .before .before .pre in (h .changeable, h .place-in)
 
-accepted-requires : tie.Need-accepted-requires
-accepted-requires c κs = search needs
-
-same-length : tie.Need-same-length
-same-length c = search needs
-
-same-length-2 : tie.Need-same-length-2
-same-length-2 c = search needs
-
-same-length-3 : tie.Need-same-length-3
-same-length-3 c = search needs
-
 returns : tie.Need-returns
 unfolding undoBy changed
 returns c =
@@ -44,8 +32,8 @@ unlog-and-exchange-spec =
     mul-log
     slice-write-log
     exchange-requires
-    accepted-requires
-    same-length
-    same-length-2
-    same-length-3
+    (λ c κs. search needs)
+    (λ c. search needs)
+    (λ c. search needs)
+    (λ c. search needs)
     returns)

@@ -8,21 +8,6 @@ use Rattle.plate.proofs.words.Fields.{or-field}
 use Rattle.plate.proofs.word.pack.Statement.{statement}
 use Rattle.plate.proofs.word.pack.Tie as tie
 
-number-requires : tie.Need-number-requires
-number-requires c κs = search needs
-
-cast-number : tie.Need-cast-number
-cast-number c = search needs
-
-cast-result : tie.Need-cast-result
-cast-result c = search needs
-
-cast-result-2 : tie.Need-cast-result-2
-cast-result-2 c = search needs
-
-cast-result-3 : tie.Need-cast-result-3
-cast-result-3 c = search needs
-
 returns : tie.Need-returns
 returns c =
     let p = c .before .before .before .before .args .p in
@@ -38,4 +23,4 @@ returns c =
 pub pack-spec : {M : Type 1} → statement M
 pack-spec =
     tie.close
-    (tie.spec number-requires cast-number cast-result cast-result-2 cast-result-3 returns)
+    (tie.spec (λ c κs. search needs) (λ c. search needs) (λ c. search needs) (λ c. search needs) (λ c. search needs) returns)

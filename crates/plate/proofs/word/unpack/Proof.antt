@@ -30,24 +30,12 @@ returns c = rw (le-leb (2 ^ wordBits) (c .before .args .word) (omega arith))
 cast-shape-of : tie.Need-cast-shape-of
 cast-shape-of c = fits-mask (c .before .args .word / 1048576) 4 tt
 
-shape-of-requires : tie.Need-shape-of-requires
-shape-of-requires c κs = search needs
-
-enum-known-shape : tie.Need-enum-known-shape
-enum-known-shape c = search needs
-
-enum-told : tie.Need-enum-told
-enum-told c = search needs
-
 returns-2 : tie.Need-returns-2
 returns-2 c =
     sym (low-word _ _ Unknown (omega arith) (sym (shape-read _ _ (c .before .before .shape-of .ensures)) ∙ c .enum-told .given .1))
 
 cast-radius : tie.Need-cast-radius
 cast-radius c = fits-mask (start (c .before) .args .word / 16777216) 8 tt
-
-top-under-requires : tie.Need-top-under-requires
-top-under-requires c κs = search needs
 
 returns-3 : tie.Need-returns-3
 returns-3 c =
@@ -80,12 +68,12 @@ unpack-spec =
     (tie.spec
     returns
     cast-shape-of
-    shape-of-requires
-    enum-known-shape
-    enum-told
+    (λ c κs. search needs)
+    (λ c. search needs)
+    (λ c. search needs)
     returns-2
     cast-radius
-    top-under-requires
+    (λ c κs. search needs)
     returns-3
     cast-t10
     cast-t9

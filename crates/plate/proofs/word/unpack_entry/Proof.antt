@@ -16,15 +16,6 @@ returns : tie.Need-returns
 unfolding readEntry
 returns c = rw (le-leb _ _ (c .if1 .taken))
 
-unpack-requires : tie.Need-unpack-requires
-unpack-requires c κs = search needs
-
-enum-known-pixel : tie.Need-enum-known-pixel
-enum-known-pixel c = search needs
-
-enum-told : tie.Need-enum-told
-enum-told c = search needs
-
 returns-2 : tie.Need-returns-2
 returns-2 c =
     let read = c .before .before in
@@ -39,4 +30,4 @@ returns-3 c =
 pub unpack-entry-spec : {M : Type 1} → statement M
 unpack-entry-spec =
     tie.close
-    (tie.spec mul-if1 returns unpack-requires enum-known-pixel enum-told returns-2 returns-3)
+    (tie.spec mul-if1 returns (λ c κs. search needs) (λ c. search needs) (λ c. search needs) returns-2 returns-3)

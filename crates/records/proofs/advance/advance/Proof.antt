@@ -33,25 +33,13 @@ loop-holds c =
     let a = c .before .args in
     (omega arith, refl, reached-start (a .m) _ (a .input .now) (a .out .now))
 
-left-requires : tie.Need-left-requires Inv-loop μ-loop
-left-requires c κs = search needs
-
 returns : tie.Need-returns Inv-loop μ-loop
 returns c =
     let h = c .before .before .before in
     rw (c .left .ensures) (reached-full (h .before .loop .inv .2) (c .before .if1 .taken))
 
-shared-slice-read-step : tie.Need-shared-slice-read-step Inv-loop μ-loop
-shared-slice-read-step c = search needs
-
-step-requires : tie.Need-step-requires Inv-loop μ-loop
-step-requires c κs = search needs
-
 add-at : tie.Need-add-at Inv-loop μ-loop
 add-at c = omega (arith, inside c .loop-test .taken, inside c .before .before .before .good)
-
-loop-less : tie.Need-loop-less Inv-loop μ-loop
-loop-less c = search needs
 
 loop-again : tie.Need-loop-again Inv-loop μ-loop
 loop-again c =
@@ -67,9 +55,6 @@ loop-again c =
           (omega (arith, l .inv .1, c .step .kept .1 .1 .1 .1 .1 .1 .1 .1 .0)),
     )
 
-left-requires-2 : tie.Need-left-requires-2 Inv-loop μ-loop
-left-requires-2 c κs = search needs
-
 returns-2 : tie.Need-returns-2 Inv-loop μ-loop
 returns-2 c =
     let h = c .before in
@@ -82,12 +67,12 @@ advance-spec =
     Inv-loop
     μ-loop
     loop-holds
-    left-requires
+    (λ c κs. search needs)
     returns
-    shared-slice-read-step
-    step-requires
+    (λ c. search needs)
+    (λ c κs. search needs)
     add-at
-    loop-less
+    (λ c. search needs)
     loop-again
-    left-requires-2
+    (λ c κs. search needs)
     returns-2)

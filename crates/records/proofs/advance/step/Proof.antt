@@ -22,18 +22,6 @@ held s =
     let a = s .args in
     buffers (a .planes .now) (a .pixels .now) (a .log .now) (a .scratch .now) (a .values .now) (a .mattes .now)
 
-sub-feed : tie.Need-sub-feed
-sub-feed c = search needs
-
-part-feed-start : tie.Need-part-feed-start
-part-feed-start c = search needs
-
-part-feed-end : tie.Need-part-feed-end
-part-feed-end c = search needs
-
-feed-requires : tie.Need-feed-requires
-feed-requires c κs = search needs
-
 add-written : tie.Need-add-written
 add-written c =
     let f = fed c in
@@ -45,9 +33,6 @@ add-written c =
     let long = length-take-le (length out - used) (drop used out) (omega (arith, length-drop used out)) in
     omega (arith, few, long, f .feed .kept .1 .1 .1 .1 .1 .1 .1 .1 .0, start f .pre, start f .good)
 
-same-length : tie.Need-same-length
-same-length c = search needs
-
 returns : tie.Need-returns
 returns c =
     let f = fed c in
@@ -58,4 +43,4 @@ returns c =
 pub step-spec : {M : Type 1} → statement M
 step-spec =
     tie.close
-    (tie.spec sub-feed part-feed-start part-feed-end feed-requires add-written same-length returns)
+    (tie.spec (λ c. search needs) (λ c. search needs) (λ c. search needs) (λ c κs. search needs) add-written (λ c. search needs) returns)

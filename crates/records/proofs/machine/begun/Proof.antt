@@ -15,21 +15,6 @@ returns : tie.Need-returns
 unfolding begunOf
 returns c = let m = c .before .before .before .args .m in rw (le-ltb (m .count) (2 ^ 64 - 1) (omega arith))
 
-add-count : tie.Need-add-count
-add-count c = search needs
-
-body-length-requires : tie.Need-body-length-requires
-body-length-requires c κs = search needs
-
-enum-known-n : tie.Need-enum-known-n
-enum-known-n c = search needs
-
-settled-requires : tie.Need-settled-requires
-settled-requires c κs = search needs
-
-enum-told : tie.Need-enum-told
-enum-told c = search needs
-
 returns-2 : tie.Need-returns-2
 unfolding begunOf begunBy
 returns-2 c =
@@ -49,10 +34,10 @@ begun-spec =
     tie.close
     (tie.spec
     returns
-    add-count
-    body-length-requires
-    enum-known-n
-    settled-requires
-    enum-told
+    (λ c. search needs)
+    (λ c κs. search needs)
+    (λ c. search needs)
+    (λ c κs. search needs)
+    (λ c. search needs)
     returns-2
     returns-3)

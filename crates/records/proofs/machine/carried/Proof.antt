@@ -11,18 +11,9 @@ returns : tie.Need-returns
 unfolding carriedOf
 returns c = let m = c .before .before .args .m in rw (le-ltb (m .held) longestBody (omega arith))
 
-array-write-body : tie.Need-array-write-body
-array-write-body c = search needs
-
-add-t10 : tie.Need-add-t10
-add-t10 c = search needs
-
-settled-requires : tie.Need-settled-requires
-settled-requires c κs = search needs
-
 returns-2 : tie.Need-returns-2
 unfolding carriedOf
 returns-2 c = let m = c .before .before .before .args .m in rw (lt-ltb (m .held) longestBody (omega arith)) (c .settled .ensures)
 
 pub carried-spec : {M : Type 1} → statement M
-carried-spec = tie.close (tie.spec returns array-write-body add-t10 settled-requires returns-2)
+carried-spec = tie.close (tie.spec returns (λ c. search needs) (λ c. search needs) (λ c κs. search needs) returns-2)

@@ -10,23 +10,11 @@ use Rattle.records.proofs.machine.end.Tie as tie
 abbrev start : tie.After-struct-known → tie.Start
 start c = c .before .before
 
-stop-requires : tie.Need-stop-requires
-stop-requires c κs = search needs
-
-same-length : tie.Need-same-length
-same-length c = search needs
-
 returns : tie.Need-returns
 unfolding endText
 returns c =
     let m = start (c .before .before .before .before .before) .args .m in
     rw (lt-ltb (m .held) (m .whole) (omega arith)) (c .before .before .stop .ensures .wrote)
-
-done-requires : tie.Need-done-requires
-done-requires c κs = search needs
-
-same-length-2 : tie.Need-same-length-2
-same-length-2 c = search needs
 
 returns-2 : tie.Need-returns-2
 unfolding endText
@@ -36,4 +24,4 @@ returns-2 c =
 
 pub end-spec : {M : Type 1} → statement M
 end-spec =
-    tie.close (tie.spec stop-requires same-length returns done-requires same-length-2 returns-2)
+    tie.close (tie.spec (λ c κs. search needs) (λ c. search needs) returns (λ c κs. search needs) (λ c. search needs) returns-2)

@@ -11,23 +11,11 @@ held s =
     let a = s .args in
     buffers (a .planes .now) (a .pixels .now) (a .log .now) (a .scratch .now) (a .values .now) (a .mattes .now)
 
-ended-requires : tie.Need-ended-requires
-ended-requires c κs = search needs
-
 returns : tie.Need-returns
 unfolding feedOf
 returns c =
     let s = c .before .before .before in
     rw (← c .before .ended .ensures, c .if1 .taken) (handed-nothing (s .args .m) (held s) (s .args .out .now))
-
-take-requires : tie.Need-take-requires
-take-requires c κs = search needs
-
-follow-requires : tie.Need-follow-requires
-follow-requires c κs = search needs
-
-same-length : tie.Need-same-length
-same-length c = search needs
 
 returns-2 : tie.Need-returns-2
 unfolding feedOf
@@ -36,4 +24,4 @@ returns-2 c =
     rw (← h .before .before .ended .ensures, h .before .if1 .left, ← h .take .ensures) (c .before .before .follow .ensures)
 
 pub feed-spec : {M : Type 1} → statement M
-feed-spec = tie.close (tie.spec ended-requires returns take-requires follow-requires same-length returns-2)
+feed-spec = tie.close (tie.spec (λ c κs. search needs) returns (λ c κs. search needs) (λ c κs. search needs) (λ c. search needs) returns-2)

@@ -5,17 +5,11 @@ use borrow.Author.Needs.{needs}
 use Rattle.records.proofs.machine.finish.Statement.{statement}
 use Rattle.records.proofs.machine.finish.Tie as tie
 
-ended-requires : tie.Need-ended-requires
-ended-requires c κs = search needs
-
 returns : tie.Need-returns
 unfolding finishCall finishOf
 returns c =
     let out = c .before .before .args .out .now in
     rw (← c .before .ended .ensures, c .if1 .taken) (closing-nothing out)
-
-end-requires : tie.Need-end-requires
-end-requires c κs = search needs
 
 returns-2 : tie.Need-returns-2
 unfolding finishCall finishOf
@@ -24,4 +18,4 @@ returns-2 c =
     rw (← c .before .before .before .ended .ensures, c .before .before .if1 .left) (closing-is (endText m) (c .end .ensures))
 
 pub finish-spec : {M : Type 1} → statement M
-finish-spec = tie.close (tie.spec ended-requires returns end-requires returns-2)
+finish-spec = tie.close (tie.spec (λ c κs. search needs) returns (λ c κs. search needs) returns-2)

@@ -12,23 +12,11 @@ use Rattle.records.proofs.perform.answered.Tie as tie
 abbrev start : tie.After-outcome-number → tie.Start
 start c = c .before .before
 
-outcome-number-requires : tie.Need-outcome-number-requires
-outcome-number-requires c κs = search needs
-
 returns : tie.Need-returns
 returns c =
     let start = c .before .before .before .before in
     let told = c .before .before .outcome-number .ensures in
     rw (no-answer (start .args .k) (outcomeNumber (start .args .a .outcome)) (omega arith)) (says-nothing _ (start .args .out .now))
-
-slice-aggregate-line : tie.Need-slice-aggregate-line
-slice-aggregate-line c = search needs
-
-line-requires : tie.Need-line-requires
-line-requires c κs = search needs
-
-same-length : tie.Need-same-length
-same-length c = search needs
 
 returns-2 : tie.Need-returns-2
 returns-2 c =
@@ -46,9 +34,9 @@ pub answered-spec : {M : Type 1} → statement M
 answered-spec =
     tie.close
     (tie.spec
-    outcome-number-requires
+    (λ c κs. search needs)
     returns
-    slice-aggregate-line
-    line-requires
-    same-length
+    (λ c. search needs)
+    (λ c κs. search needs)
+    (λ c. search needs)
     returns-2)

@@ -10,20 +10,11 @@ use Rattle.records.proofs.perform.opened.Tie as tie
 abbrev start : tie.After-outcome-number → tie.Start
 start c = c .before .before
 
-outcome-number-requires : tie.Need-outcome-number-requires
-outcome-number-requires c κs = search needs
-
 returns : tie.Need-returns
 returns c =
     let a = c .before .before .before .before .args in
     let told = c .before .before .outcome-number .ensures in
     rw (opened-yes (a .k) (a .a) (omega arith)) (says-nothing _ (a .out .now))
-
-stop-requires : tie.Need-stop-requires
-stop-requires c κs = search needs
-
-same-length : tie.Need-same-length
-same-length c = search needs
 
 returns-2 : tie.Need-returns-2
 returns-2 c =
@@ -31,12 +22,6 @@ returns-2 c =
     let a = start told .args in
     let number = told .outcome-number .ensures in
     rw (opened-sizes (a .k) (a .a) (omega arith)) (c .before .before .stop .ensures)
-
-stop-requires-2 : tie.Need-stop-requires-2
-stop-requires-2 c κs = search needs
-
-same-length-2 : tie.Need-same-length-2
-same-length-2 c = search needs
 
 returns-3 : tie.Need-returns-3
 returns-3 c =
@@ -49,11 +34,11 @@ pub opened-spec : {M : Type 1} → statement M
 opened-spec =
     tie.close
     (tie.spec
-    outcome-number-requires
+    (λ c κs. search needs)
     returns
-    stop-requires
-    same-length
+    (λ c κs. search needs)
+    (λ c. search needs)
     returns-2
-    stop-requires-2
-    same-length-2
+    (λ c κs. search needs)
+    (λ c. search needs)
     returns-3)

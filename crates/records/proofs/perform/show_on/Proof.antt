@@ -23,9 +23,6 @@ size c = start c .args .state .size
 abbrev ready : tie.After-show-parts-arg → tie.After-room
 ready c = c .before .before .before
 
-room-requires : tie.Need-room-requires
-room-requires c κs = search needs
-
 mul-cells : tie.Need-mul-cells
 mul-cells c =
     let h = c .before in omega (arith, cells-within (size h), h .room .ensures .0)
@@ -80,18 +77,6 @@ show-parts-requires c κs =
       out-room = start .pre .out-room;
     }
 
-same-length : tie.Need-same-length
-same-length c = search needs
-
-same-length-2 : tie.Need-same-length-2
-same-length-2 c = search needs
-
-same-length-3 : tie.Need-same-length-3
-same-length-3 c = search needs
-
-same-length-4 : tie.Need-same-length-4
-same-length-4 c = search needs
-
 returns : tie.Need-returns
 returns c =
     let parts = c .before .before .before .before .before .before .before .before in
@@ -109,7 +94,7 @@ pub show-on-spec : {M : Type 1} → statement M
 show-on-spec =
     tie.close
     (tie.spec
-    room-requires
+    (λ c κs. search needs)
     mul-cells
     mul-sums
     slice-aggregate-show-parts
@@ -120,8 +105,8 @@ show-on-spec =
     slice-relend-prefix-show-parts-3
     slice-aggregate-show-parts-4
     show-parts-requires
-    same-length
-    same-length-2
-    same-length-3
-    same-length-4
+    (λ c. search needs)
+    (λ c. search needs)
+    (λ c. search needs)
+    (λ c. search needs)
     returns)

@@ -17,9 +17,6 @@ called c = c .before .before .before .before .before .before .before .before .be
 abbrev start : tie.After-show → tie.Start
 start c = c .before .before .before .before .before .before .before .before .before
 
-show-requires : tie.Need-show-requires
-show-requires c κs = search needs
-
 shown-requires : tie.Need-shown-requires
 shown-requires c κs =
     let h = c .before .before .before .before .before .before .before .before .before in
@@ -40,18 +37,6 @@ shown-requires c κs =
           },
     )
 
-same-length : tie.Need-same-length
-same-length c = search needs
-
-same-length-2 : tie.Need-same-length-2
-same-length-2 c = search needs
-
-same-length-3 : tie.Need-same-length-3
-same-length-3 c = search needs
-
-same-length-4 : tie.Need-same-length-4
-same-length-4 c = search needs
-
 returns : tie.Need-returns
 returns c =
     let answer = c .before .before in
@@ -63,10 +48,10 @@ pub show-parts-spec : {M : Type 1} → statement M
 show-parts-spec =
     tie.close
     (tie.spec
-    show-requires
+    (λ c κs. search needs)
     shown-requires
-    same-length
-    same-length-2
-    same-length-3
-    same-length-4
+    (λ c. search needs)
+    (λ c. search needs)
+    (λ c. search needs)
+    (λ c. search needs)
     returns)

@@ -10,18 +10,12 @@ use Rattle.records.proofs.perform.shown.Tie as tie
 abbrev start : tie.After-outcome-number → tie.Start
 start c = c .before .before .before .before
 
-outcome-number-requires : tie.Need-outcome-number-requires
-outcome-number-requires c κs = search needs
-
 show-requires : tie.Need-show-requires
 show-requires c κs =
     let told = c .before .before .before in
     let s = start told in
     let number = told .outcome-number .ensures in
     s .pre .1 (omega arith)
-
-same-length : tie.Need-same-length
-same-length c = search needs
 
 returns : tie.Need-returns
 returns c =
@@ -35,12 +29,6 @@ returns c =
           (c .before .before .show .ensures);
     }
 
-answered-requires : tie.Need-answered-requires
-answered-requires c κs = search needs
-
-same-length-2 : tie.Need-same-length-2
-same-length-2 c = search needs
-
 returns-2 : tie.Need-returns-2
 returns-2 c =
     let told = c .before .before .before .before .before in
@@ -53,10 +41,10 @@ pub shown-spec : {M : Type 1} → statement M
 shown-spec =
     tie.close
     (tie.spec
-    outcome-number-requires
+    (λ c κs. search needs)
     show-requires
-    same-length
+    (λ c. search needs)
     returns
-    answered-requires
-    same-length-2
+    (λ c κs. search needs)
+    (λ c. search needs)
     returns-2)

@@ -12,14 +12,8 @@ returns c = let told : c .before .args .kind ≡ 1 = omega arith in rw told
 returns-2 : tie.Need-returns-2
 returns-2 c = let told : c .before .args .kind ≡ 2 = omega arith in rw told
 
-returns-3 : tie.Need-returns-3
-returns-3 c = search needs
-
-returns-4 : tie.Need-returns-4
-returns-4 c = search needs
-
 returns-5 : tie.Need-returns-5
 returns-5 c = sym (unknown-kind (c .before .args .kind) (omega arith) (omega arith) (omega arith) (omega arith))
 
 pub body-length-spec : {M : Type 1} → statement M
-body-length-spec = tie.close (tie.spec returns returns-2 returns-3 returns-4 returns-5)
+body-length-spec = tie.close (tie.spec returns returns-2 (λ c. search needs) (λ c. search needs) returns-5)

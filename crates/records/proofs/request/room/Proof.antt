@@ -35,24 +35,6 @@ returns-3 c =
     let many : cellsTop < padded z = long z (omega arith) in
     (sym (no-room z (padded z) many), sym (no-room z (places z) many))
 
-mul-cells : tie.Need-mul-cells
-mul-cells c = search needs
-
-add-cells : tie.Need-add-cells
-add-cells c = search needs
-
-add-cells-2 : tie.Need-add-cells-2
-add-cells-2 c = search needs
-
-mul-cells-2 : tie.Need-mul-cells-2
-mul-cells-2 c = search needs
-
-add-cells-3 : tie.Need-add-cells-3
-add-cells-3 c = search needs
-
-add-cells-4 : tie.Need-add-cells-4
-add-cells-4 c = search needs
-
 mul-cells-3 : tie.Need-mul-cells-3
 mul-cells-3 c =
     let a = start (c .before .before .before) .args in
@@ -68,9 +50,6 @@ returns-4 c =
     let many : cellsTop < padded z = omega arith in
     (sym (no-room z (padded z) many), sym (no-room z (places z) many))
 
-mul-t10 : tie.Need-mul-t10
-mul-t10 c = search needs
-
 returns-5 : tie.Need-returns-5
 returns-5 c =
     let a = start (c .before .before .before .before .before) .args in
@@ -85,13 +64,13 @@ room-spec =
     returns
     returns-2
     returns-3
-    mul-cells
-    add-cells
-    add-cells-2
-    mul-cells-2
-    add-cells-3
-    add-cells-4
+    (λ c. search needs)
+    (λ c. search needs)
+    (λ c. search needs)
+    (λ c. search needs)
+    (λ c. search needs)
+    (λ c. search needs)
     mul-cells-3
     returns-4
-    mul-t10
+    (λ c. search needs)
     returns-5)

@@ -27,12 +27,6 @@ cells-are c = c .before .room .ensures .0 ∙ ap cellsOf (c .before .before .siz
 places-are : (c : tie.After-struct-known) → c .before .room .result .places ≡ placesOf (asked c)
 places-are c = c .before .room .ensures .1 ∙ ap placesOf (c .before .before .size-of .ensures)
 
-size-of-requires : tie.Need-size-of-requires
-size-of-requires c κs = search needs
-
-room-requires : tie.Need-room-requires
-room-requires c κs = search needs
-
 mul-cells : tie.Need-mul-cells
 mul-cells c = omega (arith, cells-within (asked c), cells-are c)
 
@@ -53,18 +47,6 @@ slice-aggregate-call-2 c =
     let h = c .before .before in
     sym (length-take-le _ _ (omega (arith, places-within (asked h), places-are h, start h .pre .pixels-are)))
 
-call-requires : tie.Need-call-requires
-call-requires c κs = search needs
-
-same-length : tie.Need-same-length
-same-length c = search needs
-
-same-length-2 : tie.Need-same-length-2
-same-length-2 c = search needs
-
-same-length-3 : tie.Need-same-length-3
-same-length-3 c = search needs
-
 returns : tie.Need-returns
 returns c =
     let h = c .before .before .before .before .before .before .before .before .before .before in
@@ -78,15 +60,15 @@ pub serve-spec : {M : Type 1} → statement M
 serve-spec =
     tie.close
     (tie.spec
-    size-of-requires
-    room-requires
+    (λ c κs. search needs)
+    (λ c κs. search needs)
     mul-cells
     slice-relend-prefix-call
     slice-aggregate-call
     slice-relend-prefix-call-2
     slice-aggregate-call-2
-    call-requires
-    same-length
-    same-length-2
-    same-length-3
+    (λ c κs. search needs)
+    (λ c. search needs)
+    (λ c. search needs)
+    (λ c. search needs)
     returns)

@@ -3,11 +3,8 @@ use borrow.Author.Needs.{needs}
 use Rattle.records.proofs.request.stroke_request.Statement.{statement}
 use Rattle.records.proofs.request.stroke_request.Tie as tie
 
-number-requires : tie.Need-number-requires
-number-requires c κs = search needs
-
 returns : tie.Need-returns
 returns c = rw (c .number .ensures)
 
 pub stroke-request-spec : {M : Type 1} → statement M
-stroke-request-spec = tie.close (tie.spec number-requires returns)
+stroke-request-spec = tie.close (tie.spec (λ c κs. search needs) returns)

@@ -33,21 +33,6 @@ value-short c = let v = value c .wide16 in decimal-short 4 (v .result) (omega (a
 matte-short : (c : tie.After-wide8) → length (decimal (c .wide8 .result)) ≤ 3
 matte-short c = let m = c .wide8 in decimal-short 2 (m .result) (omega (arith, m .ensures .1))
 
-mul-wide16 : tie.Need-mul-wide16
-mul-wide16 c = search needs
-
-shared-slice-read-wide16 : tie.Need-shared-slice-read-wide16
-shared-slice-read-wide16 c = search needs
-
-wide16-requires : tie.Need-wide16-requires
-wide16-requires c κs = search needs
-
-shared-slice-read-wide8 : tie.Need-shared-slice-read-wide8
-shared-slice-read-wide8 c = search needs
-
-wide8-requires : tie.Need-wide8-requires
-wide8-requires c κs = search needs
-
 number-requires : tie.Need-number-requires
 number-requires c κs =
     let m = c .before in
@@ -113,11 +98,11 @@ pub cell-spec : {M : Type 1} → statement M
 cell-spec =
     tie.close
     (tie.spec
-    mul-wide16
-    shared-slice-read-wide16
-    wide16-requires
-    shared-slice-read-wide8
-    wide8-requires
+    (λ c. search needs)
+    (λ c. search needs)
+    (λ c κs. search needs)
+    (λ c. search needs)
+    (λ c κs. search needs)
     number-requires
     byte-requires
     number-requires-2

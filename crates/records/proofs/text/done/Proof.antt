@@ -18,12 +18,6 @@ first c = c .before .before .before .before
 abbrev second : tie.After-byte → tie.After-spaced
 second c = c .before .before .before .before
 
-slice-aggregate-word : tie.Need-slice-aggregate-word
-slice-aggregate-word c = search needs
-
-word-requires : tie.Need-word-requires
-word-requires c κs = search needs
-
 spaced-requires : tie.Need-spaced-requires
 spaced-requires c κs =
     let one = c .before .before .before in
@@ -69,4 +63,4 @@ returns c =
 pub done-spec : {M : Type 1} → statement M
 done-spec =
     tie.close
-    (tie.spec slice-aggregate-word word-requires spaced-requires byte-requires same-length returns)
+    (tie.spec (λ c. search needs) (λ c κs. search needs) spaced-requires byte-requires same-length returns)

@@ -15,12 +15,6 @@ returns c =
       short = omega arith;
     }
 
-byte-requires : tie.Need-byte-requires
-byte-requires c κs = search needs
-
-same-length : tie.Need-same-length
-same-length c = search needs
-
 returns-2 : tie.Need-returns-2
 returns-2 c =
     let start = c .before .before .before .before .before .before in
@@ -31,4 +25,4 @@ returns-2 c =
     }
 
 pub gap-spec : {M : Type 1} → statement M
-gap-spec = tie.close (tie.spec returns byte-requires same-length returns-2)
+gap-spec = tie.close (tie.spec returns (λ c κs. search needs) (λ c. search needs) returns-2)

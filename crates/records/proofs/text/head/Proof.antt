@@ -21,12 +21,6 @@ second c = c .before .before .before .before
 abbrev third : tie.After-byte → tie.After-spaced2
 third c = c .before .before .before .before
 
-slice-aggregate-word : tie.Need-slice-aggregate-word
-slice-aggregate-word c = search needs
-
-word-requires : tie.Need-word-requires
-word-requires c κs = search needs
-
 spaced-requires : tie.Need-spaced-requires
 spaced-requires c κs =
     let one = c .before .before .before in
@@ -109,8 +103,8 @@ pub head-spec : {M : Type 1} → statement M
 head-spec =
     tie.close
     (tie.spec
-    slice-aggregate-word
-    word-requires
+    (λ c. search needs)
+    (λ c κs. search needs)
     spaced-requires
     spaced-requires-2
     byte-requires

@@ -24,9 +24,6 @@ third c = c .before .before .before .before
 abbrev fourth : tie.After-byte → tie.After-spaced2
 fourth c = c .before .before .before .before
 
-word-requires : tie.Need-word-requires
-word-requires c κs = search needs
-
 spaced-requires : tie.Need-spaced-requires
 spaced-requires c κs =
     let one = c .before .before .before in
@@ -38,9 +35,6 @@ spaced-requires c κs =
       s .pre,
       decimal-long (s .args .n) (omega arith),
     )
-
-slice-aggregate-word : tie.Need-slice-aggregate-word
-slice-aggregate-word c = search needs
 
 word-requires-2 : tie.Need-word-requires-2
 word-requires-2 c κs =
@@ -122,9 +116,9 @@ pub line-spec : {M : Type 1} → statement M
 line-spec =
     tie.close
     (tie.spec
-    word-requires
+    (λ c κs. search needs)
     spaced-requires
-    slice-aggregate-word
+    (λ c. search needs)
     word-requires-2
     spaced-requires-2
     byte-requires

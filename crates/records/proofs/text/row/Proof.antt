@@ -41,12 +41,6 @@ cell-requires c κs =
       mattes-room = omega (arith, start .pre .mattes-room);
     }
 
-add-j : tie.Need-add-j Inv-loop μ-loop
-add-j c = search needs
-
-loop-less : tie.Need-loop-less Inv-loop μ-loop
-loop-less c = search needs
-
 loop-again : tie.Need-loop-again Inv-loop μ-loop
 loop-again c =
     let at = c .before .before .before .before .before .before .before .before .before in
@@ -59,9 +53,6 @@ loop-again c =
       rw (row-more (start .args .values .now) (start .args .mattes .now) (start .args .from) (at .loop .j))
           (then-wrote (at .loop .inv .3) (then-wrote (one .ensures .wrote) (two .ensures .wrote))),
     )
-
-same-length : tie.Need-same-length Inv-loop μ-loop
-same-length c = search needs
 
 returns : tie.Need-returns Inv-loop μ-loop
 returns c =
@@ -80,8 +71,8 @@ row-spec =
     gap-requires
     add-cell
     cell-requires
-    add-j
-    loop-less
+    (λ c. search needs)
+    (λ c. search needs)
     loop-again
-    same-length
+    (λ c. search needs)
     returns)

@@ -57,12 +57,6 @@ add-from c =
     let before = product-le (at .loop .y + 1) (start .args .w) (start .args .h) (start .args .w) (omega arith) (omega arith) in
     omega (arith, start .pre .values-room, at .loop .inv .1)
 
-add-y : tie.Need-add-y Inv-loop μ-loop
-add-y c = search needs
-
-loop-less : tie.Need-loop-less Inv-loop μ-loop
-loop-less c = search needs
-
 loop-again : tie.Need-loop-again Inv-loop μ-loop
 loop-again c =
     let at = c .before .before .before .before .before .before .before .before .before in
@@ -79,9 +73,6 @@ loop-again c =
       )
           (then-wrote (then-wrote (at .loop .inv .4) (one .ensures .wrote)) (two .ensures)),
     )
-
-same-length : tie.Need-same-length Inv-loop μ-loop
-same-length c = search needs
 
 returns : tie.Need-returns Inv-loop μ-loop
 returns c =
@@ -100,8 +91,8 @@ rows-spec =
     row-requires
     byte-requires
     add-from
-    add-y
-    loop-less
+    (λ c. search needs)
+    (λ c. search needs)
     loop-again
-    same-length
+    (λ c. search needs)
     returns)

@@ -5,18 +5,9 @@ use borrow.Author.Needs.{needs}
 use Rattle.records.proofs.text.show.Statement.{statement}
 use Rattle.records.proofs.text.show.Tie as tie
 
-head-requires : tie.Need-head-requires
-head-requires c κs = search needs
-
-rows-requires : tie.Need-rows-requires
-rows-requires c κs = search needs
-
-same-length : tie.Need-same-length
-same-length c = search needs
-
 returns : tie.Need-returns
 unfolding showText
 returns c = then-wrote (c .before .before .before .before .before .before .head .ensures .wrote) (c .before .before .rows .ensures)
 
 pub show-spec : {M : Type 1} → statement M
-show-spec = tie.close (tie.spec head-requires rows-requires same-length returns)
+show-spec = tie.close (tie.spec (λ c κs. search needs) (λ c κs. search needs) (λ c. search needs) returns)

@@ -20,21 +20,12 @@ abbrev μ-loop : tie.MeasureT-loop
 loop-holds : tie.Need-loop-holds Inv-loop μ-loop
 loop-holds c = (search needs, search needs, wrote-nothing _ _ (omega arith))
 
-shared-slice-read-b : tie.Need-shared-slice-read-b Inv-loop μ-loop
-shared-slice-read-b c = search needs
-
 byte-requires : tie.Need-byte-requires Inv-loop μ-loop
 byte-requires c κs =
     let at = c .before .before .before in
     let start = at .before .before .before in
     let long = length-take-le (at .loop .i) (start .args .w .now) (at .loop .inv .0) in
     omega (arith, start .pre, long, at .loop .inv .2 .next-is)
-
-add-i : tie.Need-add-i Inv-loop μ-loop
-add-i c = search needs
-
-loop-less : tie.Need-loop-less Inv-loop μ-loop
-loop-less c = search needs
 
 loop-again : tie.Need-loop-again Inv-loop μ-loop
 loop-again c =
@@ -44,9 +35,6 @@ loop-again c =
       c .before .before .byte .kept .0 ∙ at .loop .inv .1,
       word-more (start .args .w .now) (at .loop .i) (at .loop .inv .2) (c .before .before .byte .ensures) (omega arith),
     )
-
-same-length : tie.Need-same-length Inv-loop μ-loop
-same-length c = search needs
 
 returns : tie.Need-returns Inv-loop μ-loop
 returns c =
@@ -62,10 +50,10 @@ word-spec =
     Inv-loop
     μ-loop
     loop-holds
-    shared-slice-read-b
+    (λ c. search needs)
     byte-requires
-    add-i
-    loop-less
+    (λ c. search needs)
+    (λ c. search needs)
     loop-again
-    same-length
+    (λ c. search needs)
     returns)
