@@ -4,15 +4,15 @@ use mathlib.Core.Logic.{_⊎_}
 use mathlib.Core.List.{List, [], _∷_}
 
 -- a row as a call meets it: the refusal, one of F, and what it is given for
-pub record Row (F : Type 0) : Type 1 where
+pub record TableRow (F : Type 0) : Type 1 where
   pub refusal : F
   pub given : Type 0
 
-abbrev pub row : {F : Type 0} → F → Type 0 → Row F
+abbrev pub row : {F : Type 0} → F → Type 0 → TableRow F
 row f given = record { refusal = f; given = given }
 
 -- "The lowest number that applies is given": of the rows, in the order in which the call checks them, the call says the refusal of
 -- the first that applies, and where none does it is accepted
-unfoldable pub FirstOf : {F : Type 0} → (F → Type 0) → Type 0 → List (Row F) → Type 0
+unfoldable pub FirstOf : {F : Type 0} → (F → Type 0) → Type 0 → List (TableRow F) → Type 0
 FirstOf says accepted [] = accepted
 FirstOf says accepted (r ∷ rows) = (r .given × says (r .refusal)) ⊎ ((¬ (r .given)) × FirstOf says accepted rows)

@@ -33,13 +33,13 @@ answerOut a = record { number = outcomeNumber (a .outcome); marks = a .marks; st
 -- what a call answers C, and what it leaves
 pub record LeftOut : Type 0 where
   pub answer : LensAnswer
-  pub kept : Lent
+  pub buffers : Lent
 
 abbrev pub leavesOut : LensAnswer → Lent → LeftOut
-leavesOut a l = record { answer = a; kept = l }
+leavesOut a l = record { answer = a; buffers = l }
 
 abbrev pub leftOut : Left → LeftOut
-leftOut l = leavesOut (answerOut (l .answer)) (l .kept)
+leftOut l = leavesOut (answerOut (l .answer)) (l .buffers)
 
 pub record ShownOut : Type 0 where
   pub answer : LensAnswer

@@ -1,1 +1,1 @@
-pub mod feeding
+pub mod laws

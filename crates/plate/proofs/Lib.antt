@@ -1,7 +1,1 @@
-pub mod numbers
-pub mod checks
-pub mod words
-pub mod laying
-pub mod mending
-pub mod filling
-pub mod showing
+pub mod laws

@@ -5,15 +5,15 @@ use mathlib.Core.List.{List, map}
 use Prim.Native.Nat.{ℕ, _+_, _*_, _-_, _^_, _≤_, _<_, min}
 use lib.ListN.{getD, length}
 use Rattle.kernels_model.specs.Fixed.{valueTop, depthTop}
-use Rattle.kernels_model.specs.declared.shape.Shape.{Shape as ShapeOf}
+use Rattle.kernels_model.specs.declared.shape.Shape.{Shape}
 use Rattle.kernels_model.specs.Shape.{shapeOf, topUnder}
-use Rattle.kernels_model.specs.declared.lens.Lens.{Lens as LensOf}
+use Rattle.kernels_model.specs.declared.lens.Lens.{Lens}
 use Rattle.kernels_model.specs.Lens.{lawfulLens, blur}
 use Rattle.plate_model.specs.Fixed.{planesInAll}
 use Rattle.plate_model.specs.declared.size.Size.{Size}
 use Rattle.plate_model.specs.Layout.{padded, places}
 use Rattle.plate_model.specs.declared.state.State.{State}
-use Rattle.plate_model.specs.declared.lent.Sized.{Sized}
+use Rattle.plate_model.specs.declared.lent.LentLengths.{LentLengths}
 use Rattle.plate_model.specs.Lent.{Inputs}
 use Rattle.plate_model.specs.declared.word.Pixel.{Pixel}
 use Rattle.plate_model.specs.Word.{wordOf}
@@ -30,7 +30,7 @@ pub use Rattle.plate.specs.declared.layer.LayerRead.the-variants.{ToFill
 
 -- THE INPUTS
 -- 1 to 3 of a fill, by lengths alone
-unfoldable pub fillLengths : State → Sized → ℕ → ℕ → ℕ → Outcome
+unfoldable pub fillLengths : State → LentLengths → ℕ → ℕ → ℕ → Outcome
 fillLengths s n values opacities depths =
     sizesCheck (s .size)
     (lentCheck (s .size) n (inputsCheck (s .size) values opacities depths (countCheck (s .count) (n .log) Accepted)))
@@ -40,7 +40,7 @@ abbrev pub numberTop : ℕ
 numberTop = 2 ^ 32 - 1
 
 -- THE LAYER
-abbrev pub layerOf : Size → LensOf → ShapeOf → Layer
+abbrev pub layerOf : Size → Lens → Shape → Layer
 layerOf z l k = record { frame = frameOf z; lens = l; shape = k; top = topUnder k (z .reach) }
 
 -- the layer, where its check accepts it
@@ -49,11 +49,11 @@ readBy Accepted j = ToFill j
 readBy (Refused f) j = NoFill f
 
 -- by 5, 6, 11, 12 and 17
-abbrev pub inputsRead : Size → LensOf → ℕ → Inputs → LayerRead
+abbrev pub inputsRead : Size → Lens → ℕ → Inputs → LayerRead
 inputsRead z l k f = readBy (layerCheck l k f) (layerOf z l (knownShape (shapeOf k)))
 
 -- and by all of a fill's checks
-abbrev pub layerRead : State → LensOf → ℕ → Inputs → Sized → LayerRead
+abbrev pub layerRead : State → Lens → ℕ → Inputs → LentLengths → LayerRead
 layerRead s l k f n = readBy (fillCheck s l k f n) (layerOf (s .size) l (knownShape (shapeOf k)))
 
 abbrev pub layerSize : Layer → Size

@@ -10,7 +10,7 @@ use Rattle.plate_model.specs.Lent.{Views}
 use Rattle.plate_model.specs.declared.state.Outcome.the-variants.{Accepted}
 use Rattle.plate_model.specs.Calls.{answerOf}
 use Rattle.plate_model.specs.Kept.{showsKept, showKeptBy}
-use Rattle.plate.specs.Passes.{Picture, matteAfter, Written, rowStart}
+use Rattle.plate.specs.Passes.{Channel, matteAfter, Written, rowStart}
 use Rattle.plate.specs.Showing.{Image, BothIn, BothTo, sumIn, ShowReady}
 
 -- ONE ROW
@@ -29,7 +29,7 @@ RowKept scratch light matte first second width old new =
 -- THE IMAGE
 -- the rows of both above the image are summed; it ends at the last column summed, its rows are in the planes, and there is
 -- room for its sums
-pub record KeepReady (light : Picture) (image : Image) (scratch planes sums : List ℕ) : Type 0 where
+pub record KeepReady (light : Channel) (image : Image) (scratch planes sums : List ℕ) : Type 0 where
   pub fits : BothIn light scratch planes
   pub to : BothTo light planes scratch (image .first)
   pub columns-are : image .first + image .width ≡ light .columns
@@ -37,7 +37,7 @@ pub record KeepReady (light : Picture) (image : Image) (scratch planes sums : Li
   pub sums-are : length sums ≡ 2 * (image .width * image .height)
 
 -- the sums of its first rows are kept: light's by place, and matte's after all of light's
-pub record KeptTo (light : Picture) (image : Image) (planes sums : List ℕ) (rows : ℕ) : Type 0 where
+pub record KeptTo (light : Channel) (image : Image) (planes sums : List ℕ) (rows : ℕ) : Type 0 where
   pub in-light : (x y : ℕ) → x < image .width → y < rows → getD sums (y * image .width + x) 0 ≡ sumIn light image planes x y
   pub in-matte : (x y : ℕ) → x < image .width → y < rows
       → getD sums (image .width * image .height + (y * image .width + x)) 0 ≡ sumIn (matteAfter light) image planes x y

@@ -19,33 +19,33 @@ use Rattle.plate_model.specs.Fixed.{planesInAll}
 use Rattle.plate_model.specs.declared.word.Pixel.{Pixel}
 use Rattle.plate_model.specs.Marks.{pixelMarks, layOne}
 use Rattle.plate.specs.Frame.{Frame, frameOf}
-pub use Rattle.plate.specs.declared.lay.Worth.{Worth}
-pub use Rattle.plate.specs.declared.lay.Ground.{Ground}
+pub use Rattle.plate.specs.declared.lay.Amounts.{Amounts}
+pub use Rattle.plate.specs.declared.lay.Origin.{Origin}
 
 -- WORTHS
 -- c times a worth, wrapped
-abbrev pub times : Worth → ℕ → Worth
+abbrev pub times : Amounts → ℕ → Amounts
 times w c = record { light = (w .light * c) % 2 ^ 64; matte = (w .matte * c) % 2 ^ 64 }
 
 -- what a mark of factor 1 is worth, with the share or the remainder that it carries: "a × s, and in light times v as well"
-abbrev pub worthOf : Pixel → ℕ → Worth
-worthOf p c = record { light = p .value * (p .opacity * c); matte = p .opacity * c }
+abbrev pub amountsOf : Pixel → ℕ → Amounts
+amountsOf p c = record { light = p .value * (p .opacity * c); matte = p .opacity * c }
 
 -- MARKS
 -- the cell of a light plane at a column and a row of a drawing
-abbrev pub spot : Ground → ℕ → ℕ → ℕ → ℕ
+abbrev pub spot : Origin → ℕ → ℕ → ℕ → ℕ
 spot g p x y = g .corner + (p * g .padded + (y * g .wide + x))
 
--- a mark laid in light and, as many planes on as a picture has, in matte
-unfoldable pub layWorth : Ground → List ℕ → ℕ → ℕ → ℕ → Worth → List ℕ
-layWorth g cells p x y w =
+-- a mark laid in light and, as many planes on as a channel has, in matte
+unfoldable pub layAmounts : Origin → List ℕ → ℕ → ℕ → ℕ → Amounts → List ℕ
+layAmounts g cells p x y w =
     layOne (layOne cells (spot g p x y) (w .light)) (planesEach * g .padded + spot g p x y) (w .matte)
 
 -- the marks of a drawing laid one after the other, each worth its coefficient times w
-unfoldable pub layDrawn : Ground → Worth → List ℕ → List Mark → List ℕ
+unfoldable pub layDrawn : Origin → Amounts → List ℕ → List Mark → List ℕ
 layDrawn g w cells [] = cells
 layDrawn g w cells (m ∷ ms) =
-    layDrawn g w (layWorth g cells (m .plane) (m .column) (m .row) (times w (m .coefficient))) ms
+    layDrawn g w (layAmounts g cells (m .plane) (m .column) (m .row) (times w (m .coefficient))) ms
 
 -- the factor of mark i along an axis of n boxes
 abbrev pub factor : ℕ → ℕ → ℕ
@@ -64,12 +64,12 @@ levelMarks c d o l = pick (o .flat) (pieceMarks level (o .turn) (l .level) (o .b
 
 -- WHAT CALLERS SHOW
 -- each mark lies in the light planes
-unfoldable pub AllIn : Ground → List Mark → Type 0
+unfoldable pub AllIn : Origin → List Mark → Type 0
 AllIn g [] = Unit
 AllIn g (m ∷ ms) = (spot g (m .plane) (m .column) (m .row) < planesEach * g .padded) × AllIn g ms
 
 -- there are n cells in all planes, and room in them for the marks
-pub record Roomy (g : Ground) (n : ℕ) (ms : List Mark) : Type 0 where
+pub record MarksFit (g : Origin) (n : ℕ) (ms : List Mark) : Type 0 where
   pub planes-are : n ≡ planesInAll * g .padded
   pub inside : AllIn g ms
 
@@ -79,8 +79,8 @@ FewBoxes (Grid b) = (1 ≤ b .count) × (b .count ≤ 3)
 FewBoxes (Lines o) = Unit
 
 -- a column of a grid of two or three boxes, and planes of n cells in all
-pub record ColumnIn (g : Ground) (b : Boxes) (x n : ℕ) : Type 0 where
-  pub roomy : Roomy g n (columnMarks b x 1)
+pub record ColumnIn (g : Origin) (b : Boxes) (x n : ℕ) : Type 0 where
+  pub marks-fit : MarksFit g n (columnMarks b x 1)
   pub last-in : margin + b .count * b .side < n
   pub two-at-least : 2 ≤ b .count
   pub three-at-most : b .count ≤ 3
@@ -93,8 +93,8 @@ pub record Placed (f : Frame) (x y : ℕ) : Type 0 where
   pub row-in : y < f .size .height
 
 -- a corner on a plate
-abbrev pub groundOf : Frame → ℕ → Ground
-groundOf f corner = record { wide = f .wide; padded = f .padded; corner = corner }
+abbrev pub originOf : Frame → ℕ → Origin
+originOf f corner = record { wide = f .wide; padded = f .padded; corner = corner }
 
 -- what a kernel that reaches m leaves of the plate's reach on each side, and the cell of its corner
 abbrev pub spare : Frame → ℕ → ℕ

@@ -6,7 +6,7 @@ use lib.ListN.{length, getD, set}
 use Rattle.kernels_model.specs.Fixed.{planesEach, level, secondBox, thirdBox}
 use Rattle.kernels_model.specs.Choice.{within}
 use Rattle.kernels_model.specs.Sum.{sum, Row, Plane, Planes, across, down, add, slope, chain}
-pub use Rattle.plate.specs.declared.pass.Picture.{Picture}
+pub use Rattle.plate.specs.declared.pass.Channel.{Channel}
 pub use Rattle.plate.specs.declared.pass.Starts.{Starts}
 pub use Rattle.plate.specs.declared.pass.Across.{Across}
 
@@ -24,16 +24,16 @@ fallOne = level + 1
 abbrev pub fallTwo : ℕ
 fallTwo = level + 2
 
--- where the marks of a picture end
-abbrev pub marksEnd : Picture → ℕ
-marksEnd picture = picture .marks + planesEach * (picture .wide * picture .high)
+-- where the marks of a channel end
+abbrev pub marksEnd : Channel → ℕ
+marksEnd channel = channel .marks + planesEach * (channel .wide * channel .high)
 
--- the planes of a picture, 0 outside
-unfoldable pub planesIn : Picture → List ℕ → Planes
-planesIn picture planes plane x y =
-    within (suc x) (picture .wide)
-    (within (suc y) (picture .high)
-    (getD planes (picture .marks + plane * (picture .wide * picture .high) + (y * picture .wide + x)) 0))
+-- the planes of a channel, 0 outside
+unfoldable pub planesIn : Channel → List ℕ → Planes
+planesIn channel planes plane x y =
+    within (suc x) (channel .wide)
+    (within (suc y) (channel .high)
+    (getD planes (channel .marks + plane * (channel .wide * channel .high) + (y * channel .wide + x)) 0))
 
 -- the five slope sums added: finish is these, summed downwards
 unfoldable pub slopeSums : Planes → Plane
@@ -43,66 +43,66 @@ slopeSums planes =
     (add (slope 0 0 (chain planes)) (add (slope 1 0 (planes fallOne)) (slope 2 0 (planes fallTwo)))))
 
 -- WHERE THE SUMS LIE
--- The box sums of a picture come first, then the lines of its slopes, then the sums down. A line has one cell for all rows that
+-- The box sums of a channel come first, then the lines of its slopes, then the sums down. A line has one cell for all rows that
 -- it meets, so that a row's falling lines start a cell further left than those of the row before it, and its rising lines a
 -- cell further right. Where a line goes 2 rows a column, the even rows and the odd rows have lines of their own.
 
 -- the cells of the lines that go 1 row a column, and of those that go 2, of even rows or of odd
-abbrev pub oneLines : Picture → ℕ
-oneLines picture = picture .columns + picture .high + 1
+abbrev pub oneLines : Channel → ℕ
+oneLines channel = channel .columns + channel .high + 1
 
-abbrev pub twoLines : Picture → ℕ
-twoLines picture = picture .columns + (picture .high + 1) / 2
+abbrev pub twoLines : Channel → ℕ
+twoLines channel = channel .columns + (channel .high + 1) / 2
 
 -- where each kind starts
-abbrev pub fallingOneFrom : Picture → ℕ
-fallingOneFrom picture = picture .sums + 2 * picture .columns
+abbrev pub fallingOneFrom : Channel → ℕ
+fallingOneFrom channel = channel .sums + 2 * channel .columns
 
-abbrev pub fallingTwoFrom : Picture → ℕ
-fallingTwoFrom picture = fallingOneFrom picture + oneLines picture
+abbrev pub fallingTwoFrom : Channel → ℕ
+fallingTwoFrom channel = fallingOneFrom channel + oneLines channel
 
-abbrev pub risingOneFrom : Picture → ℕ
-risingOneFrom picture = fallingTwoFrom picture + 2 * twoLines picture
+abbrev pub risingOneFrom : Channel → ℕ
+risingOneFrom channel = fallingTwoFrom channel + 2 * twoLines channel
 
-abbrev pub risingTwoFrom : Picture → ℕ
-risingTwoFrom picture = risingOneFrom picture + oneLines picture
+abbrev pub risingTwoFrom : Channel → ℕ
+risingTwoFrom channel = risingOneFrom channel + oneLines channel
 
-abbrev pub downFrom : Picture → ℕ
-downFrom picture = risingTwoFrom picture + 2 * twoLines picture
+abbrev pub downFrom : Channel → ℕ
+downFrom channel = risingTwoFrom channel + 2 * twoLines channel
 
-abbrev pub sumsEnd : Picture → ℕ
-sumsEnd picture = downFrom picture + picture .columns
+abbrev pub sumsEnd : Channel → ℕ
+sumsEnd channel = downFrom channel + channel .columns
 
 -- where the lines that meet a row start
-abbrev pub fallingOneAt : Picture → ℕ → ℕ
-fallingOneAt picture row = fallingOneFrom picture + (picture .high - row)
+abbrev pub fallingOneAt : Channel → ℕ → ℕ
+fallingOneAt channel row = fallingOneFrom channel + (channel .high - row)
 
-abbrev pub fallingTwoAt : Picture → ℕ → ℕ
-fallingTwoAt picture row = fallingTwoFrom picture + (row % 2) * twoLines picture + ((picture .high + 1) / 2 - row / 2)
+abbrev pub fallingTwoAt : Channel → ℕ → ℕ
+fallingTwoAt channel row = fallingTwoFrom channel + (row % 2) * twoLines channel + ((channel .high + 1) / 2 - row / 2)
 
-abbrev pub risingOneAt : Picture → ℕ → ℕ
-risingOneAt picture row = risingOneFrom picture + row
+abbrev pub risingOneAt : Channel → ℕ → ℕ
+risingOneAt channel row = risingOneFrom channel + row
 
-abbrev pub risingTwoAt : Picture → ℕ → ℕ
-risingTwoAt picture row = risingTwoFrom picture + (row % 2) * twoLines picture + row / 2
+abbrev pub risingTwoAt : Channel → ℕ → ℕ
+risingTwoAt channel row = risingTwoFrom channel + (row % 2) * twoLines channel + row / 2
 
 -- where all of a row starts
-unfoldable pub startsAt : Picture → ℕ → Starts
-startsAt picture row =
+unfoldable pub startsAt : Channel → ℕ → Starts
+startsAt channel row =
     record {
-      third = picture .sums;
-      second = picture .sums + picture .columns;
-      «falling_one» = fallingOneAt picture row;
-      «falling_two» = fallingTwoAt picture row;
-      «rising_one» = risingOneAt picture row;
-      «rising_two» = risingTwoAt picture row;
-      down = downFrom picture;
-      marks = picture .marks + row * picture .wide;
-      apart = picture .wide * picture .high;
+      third = channel .sums;
+      second = channel .sums + channel .columns;
+      «falling_one» = fallingOneAt channel row;
+      «falling_two» = fallingTwoAt channel row;
+      «rising_one» = risingOneAt channel row;
+      «rising_two» = risingTwoAt channel row;
+      down = downFrom channel;
+      marks = channel .marks + row * channel .wide;
+      apart = channel .wide * channel .high;
     }
 
 -- matte, when light's sums and planes come right before its own
-abbrev pub matteAfter : Picture → Picture
+abbrev pub matteAfter : Channel → Channel
 matteAfter light =
     record { columns = light .columns; wide = light .wide; high = light .high; sums = sumsEnd light; marks = marksEnd light }
 
@@ -285,40 +285,40 @@ pub record RisingLines (k columns high : ℕ) (start : ℕ → ℕ) (plane : Pla
   pub later : (y : ℕ) → row + k ≤ y → y < high + k
       → getD scratch (start y + (columns - 1)) 0 ≡ fromBelow high k plane (columns - 1) y % 2 ^ 64
 
--- the rows of a picture above a row are summed
-pub record SummedTo (picture : Picture) (planes scratch : List ℕ) (row : ℕ) : Type 0 where
-  pub third : (x : ℕ) → x < picture .columns
-      → getD scratch (picture .sums + x) 0 ≡ sum (across (planesIn picture planes thirdBox) x) row % 2 ^ 64
-  pub second : (x : ℕ) → x < picture .columns
-      → getD scratch (picture .sums + picture .columns + x) 0
-      ≡ sum (across (add (planesIn picture planes secondBox) (down (across (planesIn picture planes thirdBox)))) x) row % 2 ^ 64
-  pub falling-one : FallingLines 1 (picture .columns) (picture .high) (fallingOneAt picture) (planesIn picture planes fallOne) scratch row
-  pub falling-two : FallingLines 2 (picture .columns) (picture .high) (fallingTwoAt picture) (planesIn picture planes fallTwo) scratch row
-  pub rising-one : RisingLines 1 (picture .columns) (picture .high) (risingOneAt picture) (planesIn picture planes riseOne) scratch row
-  pub rising-two : RisingLines 2 (picture .columns) (picture .high) (risingTwoAt picture) (planesIn picture planes riseTwo) scratch row
-  pub finished : (x : ℕ) → x < picture .columns
-      → getD scratch (downFrom picture + x) 0 ≡ sum (slopeSums (planesIn picture planes) x) row % 2 ^ 64
+-- the rows of a channel above a row are summed
+pub record SummedTo (channel : Channel) (planes scratch : List ℕ) (row : ℕ) : Type 0 where
+  pub third : (x : ℕ) → x < channel .columns
+      → getD scratch (channel .sums + x) 0 ≡ sum (across (planesIn channel planes thirdBox) x) row % 2 ^ 64
+  pub second : (x : ℕ) → x < channel .columns
+      → getD scratch (channel .sums + channel .columns + x) 0
+      ≡ sum (across (add (planesIn channel planes secondBox) (down (across (planesIn channel planes thirdBox)))) x) row % 2 ^ 64
+  pub falling-one : FallingLines 1 (channel .columns) (channel .high) (fallingOneAt channel) (planesIn channel planes fallOne) scratch row
+  pub falling-two : FallingLines 2 (channel .columns) (channel .high) (fallingTwoAt channel) (planesIn channel planes fallTwo) scratch row
+  pub rising-one : RisingLines 1 (channel .columns) (channel .high) (risingOneAt channel) (planesIn channel planes riseOne) scratch row
+  pub rising-two : RisingLines 2 (channel .columns) (channel .high) (risingTwoAt channel) (planesIn channel planes riseTwo) scratch row
+  pub finished : (x : ℕ) → x < channel .columns
+      → getD scratch (downFrom channel + x) 0 ≡ sum (slopeSums (planesIn channel planes) x) row % 2 ^ 64
 
--- the scratch has room for a picture's sums, and its planes are there
-pub record PictureIn (picture : Picture) (scratch planes : List ℕ) : Type 0 where
-  pub some : 1 ≤ picture .columns
-  pub narrow : picture .columns ≤ picture .wide
-  pub tall : 2 ≤ picture .high
-  pub sums-in : sumsEnd picture ≤ length scratch
-  pub marks-in : marksEnd picture ≤ length planes
+-- the scratch has room for a channel's sums, and its planes are there
+pub record ChannelIn (channel : Channel) (scratch planes : List ℕ) : Type 0 where
+  pub some : 1 ≤ channel .columns
+  pub narrow : channel .columns ≤ channel .wide
+  pub tall : 2 ≤ channel .high
+  pub sums-in : sumsEnd channel ≤ length scratch
+  pub marks-in : marksEnd channel ≤ length planes
 
 -- and the row comes next
-pub record RowReady (picture : Picture) (scratch planes : List ℕ) (row : ℕ) : Type 0 where
-  pub fits : PictureIn picture scratch planes
-  pub low : row < picture .high
-  pub to : SummedTo picture planes scratch row
+pub record RowReady (channel : Channel) (scratch planes : List ℕ) (row : ℕ) : Type 0 where
+  pub fits : ChannelIn channel scratch planes
+  pub low : row < channel .high
+  pub to : SummedTo channel planes scratch row
 
 -- nothing but its sums is changed
-pub record OnlySums (picture : Picture) (old new : List ℕ) : Type 0 where
+pub record OnlySums (channel : Channel) (old new : List ℕ) : Type 0 where
   pub same : length new ≡ length old
-  pub before : (j : ℕ) → j < picture .sums → getD new j 0 ≡ getD old j 0
-  pub after : (j : ℕ) → sumsEnd picture ≤ j → getD new j 0 ≡ getD old j 0
+  pub before : (j : ℕ) → j < channel .sums → getD new j 0 ≡ getD old j 0
+  pub after : (j : ℕ) → sumsEnd channel ≤ j → getD new j 0 ≡ getD old j 0
 
-pub record Summed (picture : Picture) (planes old new : List ℕ) (row : ℕ) : Type 0 where
-  pub only : OnlySums picture old new
-  pub to : SummedTo picture planes new row
+pub record Summed (channel : Channel) (planes old new : List ℕ) (row : ℕ) : Type 0 where
+  pub only : OnlySums channel old new
+  pub to : SummedTo channel planes new row

@@ -1,4 +1,4 @@
--- Show's two pictures side by side, and the image that it shows of them.
+-- Show's two channels side by side, light and matte, and the image that it shows of them.
 use mathlib.Core.Path.{_≡_}
 use mathlib.Core.List.{List}
 use Prim.Native.Nat.{ℕ, _+_, _*_, _%_, _^_, _≤_, _<_}
@@ -14,16 +14,16 @@ use Rattle.plate_model.specs.declared.state.State.{State}
 use Rattle.plate_model.specs.Lent.{Views}
 use Rattle.plate_model.specs.declared.state.Outcome.the-variants.{Accepted}
 use Rattle.plate_model.specs.Calls.{answerOf, shown, showBy}
-use Rattle.plate.specs.Passes.{Picture, sumsEnd, marksEnd, matteAfter, planesIn, Written, SummedTo}
+use Rattle.plate.specs.Passes.{Channel, sumsEnd, marksEnd, matteAfter, planesIn, Written, SummedTo}
 pub use Rattle.plate.specs.declared.show.Image.{Image}
 
--- BOTH PICTURES
+-- BOTH CHANNELS
 -- light of a plate's planes: it is summed up to the image's last column
-abbrev pub lightPicture : Size → Picture
-lightPicture z = record { columns = z .reach + margin + z .width; wide = wide z; high = high z; sums = 0; marks = 0 }
+abbrev pub lightChannel : Size → Channel
+lightChannel z = record { columns = z .reach + margin + z .width; wide = wide z; high = high z; sums = 0; marks = 0 }
 
 -- the scratch has room for the sums of light and then of matte, and the planes of both are there
-pub record BothIn (light : Picture) (scratch planes : List ℕ) : Type 0 where
+pub record BothIn (light : Channel) (scratch planes : List ℕ) : Type 0 where
   pub some : 1 ≤ light .columns
   pub narrow : light .columns ≤ light .wide
   pub tall : 2 ≤ light .high
@@ -31,22 +31,22 @@ pub record BothIn (light : Picture) (scratch planes : List ℕ) : Type 0 where
   pub marks-in : marksEnd (matteAfter light) ≤ length planes
 
 -- and so many rows
-pub record AboveReady (light : Picture) (scratch planes : List ℕ) (rows : ℕ) : Type 0 where
+pub record AboveReady (light : Channel) (scratch planes : List ℕ) (rows : ℕ) : Type 0 where
   pub fits : BothIn light scratch planes
   pub low : rows ≤ light .high
 
 -- the rows of both above a row are summed
-pub record BothTo (light : Picture) (planes scratch : List ℕ) (row : ℕ) : Type 0 where
+pub record BothTo (light : Channel) (planes scratch : List ℕ) (row : ℕ) : Type 0 where
   pub light-to : SummedTo light planes scratch row
   pub matte-to : SummedTo (matteAfter light) planes scratch row
 
 -- and the row comes next
-pub record BothReady (light : Picture) (scratch planes : List ℕ) (row : ℕ) : Type 0 where
+pub record BothReady (light : Channel) (scratch planes : List ℕ) (row : ℕ) : Type 0 where
   pub fits : BothIn light scratch planes
   pub low : row < light .high
   pub to : BothTo light planes scratch row
 
-pub record BothSummed (light : Picture) (planes old new : List ℕ) (row : ℕ) : Type 0 where
+pub record BothSummed (light : Channel) (planes old new : List ℕ) (row : ℕ) : Type 0 where
   pub same : length new ≡ length old
   pub to : BothTo light planes new row
 
@@ -64,7 +64,7 @@ pub record RowShown (scratch : List ℕ) (light matte first width : ℕ) (values
   pub in-mattes : Written 1 width (λ c. first) (λ c x. shownMatte (getD scratch (matte + x) 0)) mattes₀ mattes
 
 -- the rows of both above the image are summed; it ends at the last column summed, and its rows are in the planes
-pub record ImageReady (light : Picture) (image : Image) (scratch planes values mattes : List ℕ) : Type 0 where
+pub record ImageReady (light : Channel) (image : Image) (scratch planes values mattes : List ℕ) : Type 0 where
   pub fits : BothIn light scratch planes
   pub to : BothTo light planes scratch (image .first)
   pub columns-are : image .first + image .width ≡ light .columns
@@ -73,11 +73,11 @@ pub record ImageReady (light : Picture) (image : Image) (scratch planes values m
   pub mattes-are : length mattes ≡ image .width * image .height
 
 -- what a finished cell of the image holds
-abbrev pub sumIn : Picture → Image → List ℕ → ℕ → ℕ → ℕ
-sumIn picture image planes x y = finish (planesIn picture planes) (image .first + x) (image .first + y) % 2 ^ 64
+abbrev pub sumIn : Channel → Image → List ℕ → ℕ → ℕ → ℕ
+sumIn channel image planes x y = finish (planesIn channel planes) (image .first + x) (image .first + y) % 2 ^ 64
 
 -- its first rows are shown
-pub record ShownTo (light : Picture) (image : Image) (planes values mattes : List ℕ) (rows : ℕ) : Type 0 where
+pub record ShownTo (light : Channel) (image : Image) (planes values mattes : List ℕ) (rows : ℕ) : Type 0 where
   pub in-values : (x y : ℕ) → x < image .width → y < rows
       → getD values (y * image .width + x) 0 ≡ shownValue (sumIn light image planes x y) (sumIn (matteAfter light) image planes x y)
   pub in-mattes : (x y : ℕ) → x < image .width → y < rows

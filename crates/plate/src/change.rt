@@ -7,7 +7,7 @@ use kernels::ShapeRead;
 use plate_model::change::Change;
 use plate_model::change::ChangeRead;
 use plate_model::lent::Ask;
-use plate_model::lent::Sized;
+use plate_model::lent::LentLengths;
 use plate_model::state::Outcome;
 use plate_model::state::Refusal;
 use plate_model::state::State;
@@ -16,7 +16,7 @@ use plate_model::word::Pixel;
 use plate_model::word::Unpacked;
 ghost use mathlib.Core.Path.{_≡_};
 ghost use lib.ListN.{length};
-ghost use Rattle.plate_model.specs.Lent.{sized};
+ghost use Rattle.plate_model.specs.Lent.{lentLengths};
 ghost use Rattle.plate_model.specs.Change.{putRead, undoRead};
 
 // What a put is to change, by the lengths of planes and log and by the pixels. The shape's number is known once the check has
@@ -28,9 +28,9 @@ pub(crate) fn read_put(
     pixels: &[u64],
     log: usize,
 ) -> ChangeRead
-    ensures { λ r. ⌜ r ≡ putRead state ask (sized planes (length (now (pixels .entry))) log) (now (pixels .entry)) ⌝ }
+    ensures { λ r. ⌜ r ≡ putRead state ask (lentLengths planes (length (now (pixels .entry))) log) (now (pixels .entry)) ⌝ }
 {
-    let lengths = Sized {
+    let lengths = LentLengths {
         planes: planes,
         pixels: pixels.len(),
         log: log,
@@ -47,7 +47,7 @@ pub(crate) fn read_put(
         return ChangeRead::NoChange(Refusal::StoredWord);
     };
     let ShapeRead::Known(shape) = kernels::shape::shape_of(ask.shape) else {
-        return ChangeRead::NoChange(Refusal::Shape);
+        return ChangeRead::NoChange(Refusal::UnknownShape);
     };
     ChangeRead::ToChange(Change {
         place: place,
@@ -66,9 +66,9 @@ pub(crate) fn read_put(
 // What an undo is to change, by the length of the planes, the pixels and the log: the pixel of the last entry is to come back to
 // its place.
 pub(crate) fn read_undo(state: State, planes: usize, pixels: &[u64], log: &[u64]) -> ChangeRead
-    ensures { λ r. ⌜ r ≡ undoRead state (sized planes (length (now (pixels .entry))) (length (now (log .entry)))) (now (pixels .entry)) (now (log .entry)) ⌝ }
+    ensures { λ r. ⌜ r ≡ undoRead state (lentLengths planes (length (now (pixels .entry))) (length (now (log .entry)))) (now (pixels .entry)) (now (log .entry)) ⌝ }
 {
-    let lengths = Sized {
+    let lengths = LentLengths {
         planes: planes,
         pixels: pixels.len(),
         log: log.len(),

@@ -9,7 +9,7 @@ use plate_model::fixed::REACH_TOP;
 use plate_model::fixed::SCRATCH_PLANES;
 use plate_model::fixed::SIDE_TOP;
 use plate_model::lent::Ask;
-use plate_model::lent::Sized;
+use plate_model::lent::LentLengths;
 use plate_model::size::Size;
 use plate_model::state::Outcome;
 use plate_model::state::Refusal;
@@ -49,7 +49,7 @@ fn check_sizes(size: Size) -> Outcome
 }
 
 // 2: the lengths of planes, pixels and log.
-fn check_lent(size: Size, lent: Sized) -> Outcome
+fn check_lent(size: Size, lent: LentLengths) -> Outcome
     requires { ⌜ LawfulSize size ⌝ }
     ensures { λ r. ⌜ r ≡ lentCheck size lent Accepted ⌝ }
 {
@@ -72,7 +72,7 @@ fn check_lent(size: Size, lent: Sized) -> Outcome
 }
 
 // 1 and 2, all that an open checks, and the first that put, undo and fill check.
-pub(crate) fn check_open(size: Size, lent: Sized) -> Outcome
+pub(crate) fn check_open(size: Size, lent: LentLengths) -> Outcome
     ensures { λ r. ⌜ r ≡ openCheck size lent ⌝ }
 {
     let sizes = check_sizes(size);
@@ -83,7 +83,7 @@ pub(crate) fn check_open(size: Size, lent: Sized) -> Outcome
 }
 
 // 1 to 3, the first that put and undo check.
-fn check_plate(state: State, lent: Sized) -> Outcome
+fn check_plate(state: State, lent: LentLengths) -> Outcome
     ensures { λ r. ⌜ r ≡ plateCheck state lent Accepted ⌝ }
 {
     let size = state.size;
@@ -120,10 +120,10 @@ fn check_ask(state: State, ask: Ask, log: usize) -> Outcome
         return Outcome::Refused(Refusal::Value);
     }
     let ShapeRead::Known(known) = kernels::shape::shape_of(ask.shape) else {
-        return Outcome::Refused(Refusal::Shape);
+        return Outcome::Refused(Refusal::UnknownShape);
     };
     if kernels::shape::top_under(known, state.size.reach) < radius {
-        return Outcome::Refused(Refusal::Radius);
+        return Outcome::Refused(Refusal::LargeRadius);
     }
     if count == log {
         return Outcome::Refused(Refusal::LogFull);
@@ -132,7 +132,7 @@ fn check_ask(state: State, ask: Ask, log: usize) -> Outcome
 }
 
 // All that a put checks but for the stored word.
-pub(crate) fn check_put(state: State, ask: Ask, lent: Sized) -> Outcome
+pub(crate) fn check_put(state: State, ask: Ask, lent: LentLengths) -> Outcome
     ensures { λ r. ⌜ r ≡ putCheck state ask lent ⌝ }
 {
     let plate = check_plate(state, lent);
@@ -143,7 +143,7 @@ pub(crate) fn check_put(state: State, ask: Ask, lent: Sized) -> Outcome
 }
 
 // All that an undo checks but for the stored entry and word.
-pub(crate) fn check_undo(state: State, lent: Sized) -> Outcome
+pub(crate) fn check_undo(state: State, lent: LentLengths) -> Outcome
     ensures { λ r. ⌜ r ≡ undoCheck state lent ⌝ }
 {
     let plate = check_plate(state, lent);
@@ -180,7 +180,7 @@ fn check_inputs(size: Size, values: usize, opacities: usize, depths: usize) -> O
 // 1 to 3: what a fill checks before it reads its inputs.
 pub(crate) fn check_fill(
     state: State,
-    lent: Sized,
+    lent: LentLengths,
     values: usize,
     opacities: usize,
     depths: usize,

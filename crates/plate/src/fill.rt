@@ -4,7 +4,7 @@ use crate::layer::read_layer;
 use crate::layer::refill;
 use crate::state::refused;
 use kernels::Lens;
-use plate_model::lent::Sized;
+use plate_model::lent::LentLengths;
 use plate_model::state::Answer;
 use plate_model::state::State;
 ghost use mathlib.Core.Path.{_≡_};
@@ -25,7 +25,7 @@ pub fn fill(
 ) -> Answer
     ensures { λ r. ⌜ leaves r (lentAtExit planes pixels log) ≡ fillCall state lens shape (inputs (now (values .entry)) (now (opacities .entry)) (now (depths .entry))) (lentAtEntry planes pixels log) ⌝ }
 {
-    let lengths = Sized {
+    let lengths = LentLengths {
         planes: planes.len(),
         pixels: pixels.len(),
         log: log.len(),

@@ -7,11 +7,11 @@ use crate::check::check_kept;
 use crate::check::check_show_kept;
 use crate::clear::clear;
 use crate::mend::mend;
-use crate::pass::Picture;
+use crate::pass::Channel;
 use crate::pass::matte_after;
 use crate::put::log_and_exchange;
 use crate::show::Image;
-use crate::show::light_picture;
+use crate::show::light_channel;
 use crate::show::round_row;
 use crate::show::sum_above;
 use crate::show::sum_both;
@@ -48,7 +48,7 @@ fn keep_row(
 }
 
 // The rows of the image: each is summed, and its sums are kept while they are at hand.
-fn keep_rows(sums: &mut [u64], scratch: &mut [u64], planes: &[u64], light: Picture, image: Image)
+fn keep_rows(sums: &mut [u64], scratch: &mut [u64], planes: &[u64], light: Channel, image: Image)
     requires { ⌜ KeepReady light image (now scratch) (now planes) (now sums) ⌝ }
     ensures { λ _. ⌜ KeptTo light image (now (planes .entry)) (now (sums .exit)) (image .height) ⌝ }
 {
@@ -88,7 +88,7 @@ fn keep_all(
     ensures { λ _. ⌜ ShowKeptDone state (now (planes .entry)) (viewsAtEntry scratch values mattes) (viewsAtExit scratch values mattes) (now (sums .entry)) (now (sums .exit)) ⌝ }
 {
     let size = state.size;
-    let light = light_picture(size);
+    let light = light_channel(size);
     let image = Image {
         first: size.reach + MARGIN,
         width: size.width,

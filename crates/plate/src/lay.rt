@@ -1,5 +1,5 @@
 // Lays the marks of kernels in the planes: each mark is one sum in a light plane and one in the matte plane, as many planes on as
-// a picture has.
+// a channel has.
 use crate::size::Frame;
 use kernels::Boxes;
 use kernels::Drawing;
@@ -21,56 +21,56 @@ ghost use Rattle.kernels_model.specs.Mark.{minus, boxGrid, scaled};
 ghost use Rattle.kernels_model.specs.Drawing.{pieceMarks, drawnMarks};
 ghost use Rattle.plate_model.specs.Fixed.{planesInAll};
 ghost use Rattle.plate_model.specs.Marks.{layAll};
-ghost use Rattle.plate.specs.Laying.{Worth, times, worthOf, spot, layWorth, layDrawn, factor, levelMarks, columnMarks, ColumnIn, FewBoxes, Roomy, Placed, PixelReady, ownMarks, groundOf, cornerOf, marksAt};
+ghost use Rattle.plate.specs.Laying.{Amounts, times, amountsOf, spot, layAmounts, layDrawn, factor, levelMarks, columnMarks, ColumnIn, FewBoxes, MarksFit, Placed, PixelReady, ownMarks, originOf, cornerOf, marksAt};
 
 // What a mark of coefficient 1 adds in light and in matte. Both wrap: to take a kernel off is to lay what wraps to its opposite.
-pub struct Worth {
+pub struct Amounts {
     pub light: u64,
     pub matte: u64,
 }
 
 // The cells of a padded plane, in a row and in all, and the one that a drawing has as its corner.
-pub struct Ground {
+pub struct Origin {
     pub wide: usize,
     pub padded: usize,
     pub corner: usize,
 }
 
 // The worth that wraps to 0 with w.
-pub(crate) fn opposite(w: Worth) -> Worth
+pub(crate) fn opposite(w: Amounts) -> Amounts
     ensures { λ r. ⌜ r ≡ times w (minus 1) ⌝ }
 {
-    Worth {
+    Amounts {
         light: std::num::wrapping_sub_u64(0, w.light),
         matte: std::num::wrapping_sub_u64(0, w.matte),
     }
 }
 
 // What two marks of worth w add.
-fn twice(w: Worth) -> Worth
+fn twice(w: Amounts) -> Amounts
     ensures { λ r. ⌜ r ≡ times w 2 ⌝ }
 {
-    Worth {
+    Amounts {
         light: std::num::wrapping_add_u64(w.light, w.light),
         matte: std::num::wrapping_add_u64(w.matte, w.matte),
     }
 }
 
 // What three marks of worth w add.
-fn thrice(w: Worth) -> Worth
+fn thrice(w: Amounts) -> Amounts
     ensures { λ r. ⌜ r ≡ times w 3 ⌝ }
 {
     let two = twice(w);
-    Worth {
+    Amounts {
         light: std::num::wrapping_add_u64(two.light, w.light),
         matte: std::num::wrapping_add_u64(two.matte, w.matte),
     }
 }
 
 // One mark: a sum in light, and one in matte.
-fn lay_mark(planes: &mut [u64], g: Ground, plane: usize, x: usize, y: usize, w: Worth)
+fn lay_mark(planes: &mut [u64], g: Origin, plane: usize, x: usize, y: usize, w: Amounts)
     requires { ⌜ (length (now planes) ≡ planesInAll * g .padded) × (spot g plane x y < planesEach * g .padded) ⌝ }
-    ensures { λ _. ⌜ now (planes .exit) ≡ layWorth g (now (planes .entry)) plane x y w ⌝ }
+    ensures { λ _. ⌜ now (planes .exit) ≡ layAmounts g (now (planes .entry)) plane x y w ⌝ }
 {
     let light = g.corner + (plane * g.padded + (y * g.wide + x));
     let matte = PLANES_EACH * g.padded + light;
@@ -81,26 +81,26 @@ fn lay_mark(planes: &mut [u64], g: Ground, plane: usize, x: usize, y: usize, w: 
 // The two marks of a piece.
 fn lay_piece(
     planes: &mut [u64],
-    g: Ground,
+    g: Origin,
     plane: usize,
     x0: usize,
     y0: usize,
     x1: usize,
     y1: usize,
-    start: Worth,
-    end: Worth,
+    start: Amounts,
+    end: Amounts,
 )
-    requires { ⌜ Roomy g (length (now planes)) (pieceMarks plane x0 y0 x1 y1 1 1) ⌝ }
-    ensures { λ _. ⌜ ((w : Worth) (c d : ℕ) → start ≡ times w c → end ≡ times w d → now (planes .exit) ≡ layDrawn g w (now (planes .entry)) (pieceMarks plane x0 y0 x1 y1 c d)) ⌝ }
+    requires { ⌜ MarksFit g (length (now planes)) (pieceMarks plane x0 y0 x1 y1 1 1) ⌝ }
+    ensures { λ _. ⌜ ((w : Amounts) (c d : ℕ) → start ≡ times w c → end ≡ times w d → now (planes .exit) ≡ layDrawn g w (now (planes .entry)) (pieceMarks plane x0 y0 x1 y1 c d)) ⌝ }
 {
     lay_mark(planes, g, plane, x0, y0, start);
     lay_mark(planes, g, plane, x1, y1, end);
 }
 
 // The level piece of a line, where there is one.
-fn lay_level(planes: &mut [u64], g: Ground, o: Outline, l: Line, start: Worth, end: Worth)
-    requires { ⌜ Roomy g (length (now planes)) (levelMarks 1 1 o l) ⌝ }
-    ensures { λ _. ⌜ ((w : Worth) (c d : ℕ) → start ≡ times w c → end ≡ times w d → now (planes .exit) ≡ layDrawn g w (now (planes .entry)) (levelMarks c d o l)) ⌝ }
+fn lay_level(planes: &mut [u64], g: Origin, o: Outline, l: Line, start: Amounts, end: Amounts)
+    requires { ⌜ MarksFit g (length (now planes)) (levelMarks 1 1 o l) ⌝ }
+    ensures { λ _. ⌜ ((w : Amounts) (c d : ℕ) → start ≡ times w c → end ≡ times w d → now (planes .exit) ≡ layDrawn g w (now (planes .entry)) (levelMarks c d o l)) ⌝ }
 {
     if !o.flat {
         return;
@@ -120,8 +120,8 @@ fn lay_level(planes: &mut [u64], g: Ground, o: Outline, l: Line, start: Worth, e
 
 // The lines of an outline, piece by piece: plus along the top, minus along the bottom. A line is no function of its own, so that
 // the compiler lays all marks of a kernel in one go.
-fn lay_lines(planes: &mut [u64], g: Ground, o: Outline, w: Worth)
-    requires { ⌜ Roomy g (length (now planes)) (drawnMarks (Lines o)) ⌝ }
+fn lay_lines(planes: &mut [u64], g: Origin, o: Outline, w: Amounts)
+    requires { ⌜ MarksFit g (length (now planes)) (drawnMarks (Lines o)) ⌝ }
     ensures { λ _. ⌜ now (planes .exit) ≡ layDrawn g w (now (planes .entry)) (drawnMarks (Lines o)) ⌝ }
 {
     let minus = opposite(w);
@@ -142,8 +142,8 @@ fn lay_lines(planes: &mut [u64], g: Ground, o: Outline, w: Worth)
 }
 
 // One box: neighbouring corners differ in sign.
-fn lay_box(planes: &mut [u64], g: Ground, plane: usize, side: usize, w: Worth)
-    requires { ⌜ Roomy g (length (now planes)) (boxGrid plane 1 side margin margin) ⌝ }
+fn lay_box(planes: &mut [u64], g: Origin, plane: usize, side: usize, w: Amounts)
+    requires { ⌜ MarksFit g (length (now planes)) (boxGrid plane 1 side margin margin) ⌝ }
     ensures { λ _. ⌜ now (planes .exit) ≡ layDrawn g w (now (planes .entry)) (boxGrid plane 1 side margin margin) ⌝ }
 {
     let minus = opposite(w);
@@ -153,7 +153,7 @@ fn lay_box(planes: &mut [u64], g: Ground, plane: usize, side: usize, w: Worth)
 }
 
 // What mark i along an axis of two or three boxes adds: 1, -2, 1 or 1, -3, 3, -1 times w.
-fn factored(w: Worth, boxes: usize, i: usize) -> Worth
+fn factored(w: Amounts, boxes: usize, i: usize) -> Amounts
     requires { ⌜ (2 ≤ boxes) × (boxes ≤ 3) × (i ≤ boxes) ⌝ }
     ensures { λ r. ⌜ r ≡ times w (factor boxes i) ⌝ }
 {
@@ -176,9 +176,9 @@ fn factored(w: Worth, boxes: usize, i: usize) -> Worth
 }
 
 // A column of the grid of two or three boxes.
-fn lay_column(planes: &mut [u64], g: Ground, b: Boxes, x: usize, w: Worth)
+fn lay_column(planes: &mut [u64], g: Origin, b: Boxes, x: usize, w: Amounts)
     requires { ⌜ ColumnIn g b x (length (now planes)) ⌝ }
-    ensures { λ _. ⌜ ((v : Worth) (c : ℕ) → w ≡ times v c → now (planes .exit) ≡ layDrawn g v (now (planes .entry)) (columnMarks b x c)) ⌝ }
+    ensures { λ _. ⌜ ((v : Amounts) (c : ℕ) → w ≡ times v c → now (planes .exit) ≡ layDrawn g v (now (planes .entry)) (columnMarks b x c)) ⌝ }
 {
     for j in 0..b.count + 1 {
         lay_mark(
@@ -193,8 +193,8 @@ fn lay_column(planes: &mut [u64], g: Ground, b: Boxes, x: usize, w: Worth)
 }
 
 // Two or three boxes convolved.
-fn lay_columns(planes: &mut [u64], g: Ground, b: Boxes, w: Worth)
-    requires { ⌜ Roomy g (length (now planes)) (drawnMarks (Grid b)) × (2 ≤ b .count) × (b .count ≤ 3) ⌝ }
+fn lay_columns(planes: &mut [u64], g: Origin, b: Boxes, w: Amounts)
+    requires { ⌜ MarksFit g (length (now planes)) (drawnMarks (Grid b)) × (2 ≤ b .count) × (b .count ≤ 3) ⌝ }
     ensures { λ _. ⌜ now (planes .exit) ≡ layDrawn g w (now (planes .entry)) (drawnMarks (Grid b)) ⌝ }
 {
     for i in 0..b.count + 1 {
@@ -203,8 +203,8 @@ fn lay_columns(planes: &mut [u64], g: Ground, b: Boxes, w: Worth)
 }
 
 // The marks of one, two or three boxes convolved.
-fn lay_grid(planes: &mut [u64], g: Ground, b: Boxes, w: Worth)
-    requires { ⌜ Roomy g (length (now planes)) (drawnMarks (Grid b)) × FewBoxes (Grid b) ⌝ }
+fn lay_grid(planes: &mut [u64], g: Origin, b: Boxes, w: Amounts)
+    requires { ⌜ MarksFit g (length (now planes)) (drawnMarks (Grid b)) × FewBoxes (Grid b) ⌝ }
     ensures { λ _. ⌜ now (planes .exit) ≡ layDrawn g w (now (planes .entry)) (drawnMarks (Grid b)) ⌝ }
 {
     if b.count == 1 {
@@ -215,8 +215,8 @@ fn lay_grid(planes: &mut [u64], g: Ground, b: Boxes, w: Worth)
 }
 
 // The marks of a drawing.
-fn lay_drawing(planes: &mut [u64], g: Ground, d: Drawing, w: Worth)
-    requires { ⌜ Roomy g (length (now planes)) (drawnMarks d) × FewBoxes d ⌝ }
+fn lay_drawing(planes: &mut [u64], g: Origin, d: Drawing, w: Amounts)
+    requires { ⌜ MarksFit g (length (now planes)) (drawnMarks d) × FewBoxes d ⌝ }
     ensures { λ _. ⌜ now (planes .exit) ≡ layDrawn g w (now (planes .entry)) (drawnMarks d) ⌝ }
 {
     match d {
@@ -226,11 +226,11 @@ fn lay_drawing(planes: &mut [u64], g: Ground, d: Drawing, w: Worth)
 }
 
 // What a mark of factor 1 of a pixel is worth, with the share or the remainder that it carries.
-fn worth_of(p: Pixel, part: u32) -> Worth
-    ensures { λ r. ⌜ r ≡ worthOf p part ⌝ }
+fn amounts_of(p: Pixel, part: u32) -> Amounts
+    ensures { λ r. ⌜ r ≡ amountsOf p part ⌝ }
 {
     let matte = p.opacity as u64 * part as u64;
-    Worth {
+    Amounts {
         light: p.value as u64 * matte,
         matte: matte,
     }
@@ -238,33 +238,33 @@ fn worth_of(p: Pixel, part: u32) -> Worth
 
 // The marks of the taps of a shape and a radius, their drawing laid from the corner; each mark is worth w for 1 of its
 // coefficient. The worth is read first, whatever the shape, so that the compiler hands its numbers over in registers.
-fn lay_taps(planes: &mut [u64], frame: Frame, corner: usize, shape: Shape, radius: u8, w: Worth)
-    requires { ⌜ Roomy (groundOf frame corner) (length (now planes)) (ownMarks shape radius) ⌝ }
-    ensures { λ _. ⌜ now (planes .exit) ≡ layDrawn (groundOf frame corner) w (now (planes .entry)) (ownMarks shape radius) ⌝ }
+fn lay_taps(planes: &mut [u64], frame: Frame, corner: usize, shape: Shape, radius: u8, w: Amounts)
+    requires { ⌜ MarksFit (originOf frame corner) (length (now planes)) (ownMarks shape radius) ⌝ }
+    ensures { λ _. ⌜ now (planes .exit) ≡ layDrawn (originOf frame corner) w (now (planes .entry)) (ownMarks shape radius) ⌝ }
 {
-    let worth = Worth {
+    let worth = Amounts {
         light: w.light,
         matte: w.matte,
     };
-    let ground = Ground {
+    let origin = Origin {
         wide: frame.wide,
         padded: frame.padded,
         corner: corner,
     };
-    lay_drawing(planes, ground, kernels::mark::draw(shape, radius), worth);
+    lay_drawing(planes, origin, kernels::mark::draw(shape, radius), worth);
 }
 
 // The marks of a kernel's centre: a box of radius 0 in slope 0, laid from its corner.
-fn lay_centre(planes: &mut [u64], frame: Frame, corner: usize, w: Worth)
-    requires { ⌜ Roomy (groundOf frame corner) (length (now planes)) (ownMarks Box 0) ⌝ }
-    ensures { λ _. ⌜ now (planes .exit) ≡ layDrawn (groundOf frame corner) w (now (planes .entry)) (ownMarks Box 0) ⌝ }
+fn lay_centre(planes: &mut [u64], frame: Frame, corner: usize, w: Amounts)
+    requires { ⌜ MarksFit (originOf frame corner) (length (now planes)) (ownMarks Box 0) ⌝ }
+    ensures { λ _. ⌜ now (planes .exit) ≡ layDrawn (originOf frame corner) w (now (planes .entry)) (ownMarks Box 0) ⌝ }
 {
-    let ground = Ground {
+    let origin = Origin {
         wide: frame.wide,
         padded: frame.padded,
         corner: corner,
     };
-    lay_box(planes, ground, LEVEL, 1, w);
+    lay_box(planes, origin, LEVEL, 1, w);
 }
 
 // The cell that a kernel around (x, y) has as its corner: as far in as it leaves of the plate's reach.
@@ -289,8 +289,8 @@ pub(crate) fn lay_pixel(
     ensures { λ _. ⌜ now (planes .exit) ≡ layAll (frame .size) (now (planes .entry)) (marksAt frame x y p) ⌝ }
 {
     let shape = p.shape;
-    let taps = worth_of(p, share.each);
-    let centre = worth_of(p, share.rest);
+    let taps = amounts_of(p, share.each);
+    let centre = amounts_of(p, share.rest);
     let corner = corner_of(frame, x, y, kernels::shape::reach(shape, p.radius));
     let middle = corner_of(frame, x, y, 0);
     lay_taps(planes, frame, corner, shape, p.radius, taps);
@@ -310,8 +310,8 @@ pub(crate) fn take_pixel(
     ensures { λ _. ⌜ now (planes .exit) ≡ layAll (frame .size) (now (planes .entry)) (scaled (minus 1) (marksAt frame x y p)) ⌝ }
 {
     let shape = p.shape;
-    let taps = opposite(worth_of(p, share.each));
-    let centre = opposite(worth_of(p, share.rest));
+    let taps = opposite(amounts_of(p, share.each));
+    let centre = opposite(amounts_of(p, share.rest));
     let corner = corner_of(frame, x, y, kernels::shape::reach(shape, p.radius));
     let middle = corner_of(frame, x, y, 0);
     lay_taps(planes, frame, corner, shape, p.radius, taps);

@@ -14,7 +14,7 @@ use kernels::Shape;
 use kernels::ShapeRead;
 use kernels::Table;
 use kernels_model::fixed::DEPTH_TOP;
-use plate_model::lent::Sized;
+use plate_model::lent::LentLengths;
 use plate_model::size::Size;
 use plate_model::state::Answer;
 use plate_model::state::Outcome;
@@ -71,10 +71,10 @@ fn read_inputs(size: Size, lens: Lens, shape: u8, values: &[u16], depths: &[u32]
         return LayerRead::NoFill(Refusal::Value);
     }
     let ShapeRead::Known(known) = kernels::shape::shape_of(shape) else {
-        return LayerRead::NoFill(Refusal::Shape);
+        return LayerRead::NoFill(Refusal::UnknownShape);
     };
     if !kernels::lens::lawful_lens(lens) {
-        return LayerRead::NoFill(Refusal::Lens);
+        return LayerRead::NoFill(Refusal::UnlawfulLens);
     }
     if depth_between(depths, size, DEPTH_TOP, u32::MAX) {
         return LayerRead::NoFill(Refusal::Depth);
@@ -88,7 +88,7 @@ fn read_inputs(size: Size, lens: Lens, shape: u8, values: &[u16], depths: &[u32]
 // What a fill is to lay: the lengths are checked first, then what the inputs hold.
 pub(crate) fn read_layer(
     state: State,
-    lent: Sized,
+    lent: LentLengths,
     lens: Lens,
     shape: u8,
     values: &[u16],

@@ -1,6 +1,6 @@
 // Mending: kept sums and pictures after a change, where the old or the new kernel has a tap. A row in which each kernel has one
 // weight for all its cells is mended run by run, and any other cell by cell.
-use crate::lay::Worth;
+use crate::lay::Amounts;
 use crate::lay::opposite;
 use crate::show::round_row;
 use kernels::Band;
@@ -26,7 +26,7 @@ ghost use Rattle.kernels_model.specs.Band.{isLevel};
 ghost use Rattle.plate_model.specs.Fixed.{sideTop};
 ghost use Rattle.plate_model.specs.Lent.{canvas, canvasAtEntry, canvasAtExit};
 ghost use Rattle.plate_model.specs.Kept.{mended};
-ghost use Rattle.plate.specs.Mending.{GivenIn, GivesFew, CellIn, CellDone, levelWorth, RunAdded, RunIn, RunGiven, MendReady, SharesOf, RowToMend, InRow, MendedWhere};
+ghost use Rattle.plate.specs.Mending.{GivenIn, GivesFew, CellIn, CellDone, levelAmounts, RunAdded, RunIn, RunGiven, MendReady, SharesOf, RowToMend, InRow, MendedWhere};
 
 // What a pixel gives the cells of one row: its value and its opacity, and its kernel's row.
 pub struct Given {
@@ -36,7 +36,7 @@ pub struct Given {
 }
 
 // Cells of a line one after the other: from `first` on, up to the one before `past`.
-pub struct Stretch {
+pub struct ColumnRange {
     pub first: usize,
     pub past: usize,
 }
@@ -62,19 +62,19 @@ fn greater(a: usize, b: usize) -> usize
 }
 
 // The cells of a line of `end` cells that are less than `span` from the one at `at`.
-fn stretch_around(at: usize, span: usize, end: usize) -> Stretch
+fn columns_around(at: usize, span: usize, end: usize) -> ColumnRange
     requires { ⌜ (at < end) × (end ≤ sideTop) × (span ≤ sideTop) ⌝ }
     ensures { λ r. ⌜ (r .first ≡ at + 1 - span) × (r .past ≡ min (at + span) end) ⌝ }
 {
     let first = less(at + 1, span);
     let past = at + span;
     if past < end {
-        return Stretch {
+        return ColumnRange {
             first: first,
             past: past,
         };
     }
-    Stretch {
+    ColumnRange {
         first: first,
         past: end,
     }
@@ -144,7 +144,7 @@ fn mend_cells(
 {
     let places = size.width * size.height;
     let span = greater(old.band.span, new.band.span);
-    let columns = stretch_around(change.x, span, size.width);
+    let columns = columns_around(change.x, span, size.width);
     let first = columns.first;
     let past = columns.past;
     for column in first..past {
@@ -155,12 +155,12 @@ fn mend_cells(
 }
 
 // What a pixel gives each cell of a row in which all have the same weight.
-fn level_worth(g: Given) -> Worth
+fn level_amounts(g: Given) -> Amounts
     requires { ⌜ GivesFew g ⌝ }
-    ensures { λ r. ⌜ r ≡ levelWorth g ⌝ }
+    ensures { λ r. ⌜ r ≡ levelAmounts g ⌝ }
 {
     let matte = g.opacity * weight_at(g.band, 0);
-    Worth {
+    Amounts {
         light: g.value * matte,
         matte: matte,
     }
@@ -176,8 +176,8 @@ fn add_run(sums: &mut [u64], first: usize, count: usize, by: u64)
     }
 }
 
-// What a pixel gives a stretch of the row that starts at `start`, in light and in matte.
-fn give_run(sums: &mut [u64], places: usize, start: usize, columns: Stretch, by: Worth)
+// What a pixel gives a columns of the row that starts at `start`, in light and in matte.
+fn give_run(sums: &mut [u64], places: usize, start: usize, columns: ColumnRange, by: Amounts)
     requires { ⌜ RunIn places start columns (now sums) ⌝ }
     ensures { λ _. ⌜ RunGiven places start columns by (now (sums .entry)) (now (sums .exit)) ⌝ }
 {
@@ -207,12 +207,12 @@ fn mend_runs(
     let places = width * size.height;
     let start = row * width;
     let x = change.x;
-    let old_run = stretch_around(x, old.band.span, width);
-    let new_run = stretch_around(x, new.band.span, width);
-    give_run(sums, places, start, old_run, opposite(level_worth(old)));
-    give_run(sums, places, start, new_run, level_worth(new));
+    let old_run = columns_around(x, old.band.span, width);
+    let new_run = columns_around(x, new.band.span, width);
+    give_run(sums, places, start, old_run, opposite(level_amounts(old)));
+    give_run(sums, places, start, new_run, level_amounts(new));
     let span = greater(old.band.span, new.band.span);
-    let columns = stretch_around(x, span, width);
+    let columns = columns_around(x, span, width);
     let first = start + columns.first;
     let count = less(columns.past, columns.first);
     round_row(values, mattes, sums, first, places + first, first, count);
@@ -265,7 +265,7 @@ pub(crate) fn mend(
     let new_share = kernels::share::share_of(new_shape, new.radius);
     let old_reach = kernels::shape::reach(old_shape, old.radius);
     let new_reach = kernels::shape::reach(new_shape, new.radius);
-    let rows = stretch_around(change.y, greater(old_reach, new_reach) + 1, size.height);
+    let rows = columns_around(change.y, greater(old_reach, new_reach) + 1, size.height);
     let first = rows.first;
     let past = rows.past;
     for row in first..past {

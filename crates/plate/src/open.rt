@@ -4,7 +4,7 @@ use crate::clear::clear;
 use crate::state::accepted;
 use crate::state::refused;
 use crate::state::state_of;
-use plate_model::lent::Sized;
+use plate_model::lent::LentLengths;
 use plate_model::size::Size;
 use plate_model::state::Answer;
 use plate_model::state::Outcome;
@@ -29,7 +29,7 @@ pub fn open(
         height: height,
         reach: reach,
     };
-    let lengths = Sized {
+    let lengths = LentLengths {
         planes: planes.len(),
         pixels: pixels.len(),
         log: log.len(),

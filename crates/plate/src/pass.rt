@@ -1,4 +1,4 @@
-// The sums that finish a picture's planes, in one pass over its rows. What a sum hands from row to row it keeps in the lent
+// The sums that finish a channel's planes, in one pass over its rows. What a sum hands from row to row it keeps in the lent
 // scratch, one cell for each column or for each line of a slope, and reads and raises it there: no sum has a copy of a row or a
 // column for itself.
 use crate::clear::clear;
@@ -11,7 +11,7 @@ use std::num::wrapping_sub_u64;
 ghost use mathlib.Core.Path.{_≡_};
 ghost use Prim.Native.Nat.{_+_, _%_, _^_, _<_};
 ghost use lib.ListN.{length};
-ghost use Rattle.plate.specs.Passes.{sumsEnd, marksEnd, startsAt, matteAfter, Added, LinesIn, MarksOn, MarksOff, BoxesIn, BoxesMet, InOrder, RowSummed, RowLaid, PictureIn, RowReady, Summed};
+ghost use Rattle.plate.specs.Passes.{sumsEnd, marksEnd, startsAt, matteAfter, Added, LinesIn, MarksOn, MarksOff, BoxesIn, BoxesMet, InOrder, RowSummed, RowLaid, ChannelIn, RowReady, Summed};
 
 // The planes of the slopes −2, −1, 1 and 2. A line of a slope below 0 rises to the right.
 const RISE_TWO: usize = LEVEL - 2;
@@ -22,9 +22,9 @@ const FALL_ONE: usize = LEVEL + 1;
 
 const FALL_TWO: usize = LEVEL + 2;
 
-// A picture to be summed: how many columns of its planes, the cells in a row and the rows of a plane, and where its sums start
+// A channel to be summed: how many columns of its planes, the cells in a row and the rows of a plane, and where its sums start
 // in the scratch and its marks in the planes.
-pub(crate) struct Picture {
+pub(crate) struct Channel {
     pub columns: usize,
     pub wide: usize,
     pub high: usize,
@@ -32,7 +32,7 @@ pub(crate) struct Picture {
     pub marks: usize,
 }
 
-// Where one row of a picture starts: in the scratch its box sums, the lines that it meets and the sums down; in the planes its
+// Where one row of a channel starts: in the scratch its box sums, the lines that it meets and the sums down; in the planes its
 // marks, of which those of the next plane are `apart` cells on.
 pub(crate) struct Starts {
     pub third: usize,
@@ -54,17 +54,17 @@ pub(crate) struct Across {
 }
 
 // A row's lines lie where those of the row before it lie, a column further: a line keeps its cell, and nothing moves.
-pub(crate) fn starts_at(picture: Picture, row: usize) -> Starts
-    requires { ⌜ (row < picture .high) × (sumsEnd picture < 2 ^ 64) × (marksEnd picture < 2 ^ 64) ⌝ }
-    ensures { λ r. ⌜ r ≡ startsAt picture row ⌝ }
+pub(crate) fn starts_at(channel: Channel, row: usize) -> Starts
+    requires { ⌜ (row < channel .high) × (sumsEnd channel < 2 ^ 64) × (marksEnd channel < 2 ^ 64) ⌝ }
+    ensures { λ r. ⌜ r ≡ startsAt channel row ⌝ }
 {
-    let columns = picture.columns;
-    let high = picture.high;
+    let columns = channel.columns;
+    let high = channel.high;
     let half = (high + 1) / 2;
     let ones = columns + high + 1;
     let twos = columns + half;
     let side = (row % 2) * twos;
-    let third = picture.sums;
+    let third = channel.sums;
     let falling_one = third + 2 * columns;
     let falling_two = falling_one + ones;
     let rising_one = falling_two + 2 * twos;
@@ -77,18 +77,18 @@ pub(crate) fn starts_at(picture: Picture, row: usize) -> Starts
         rising_one: rising_one + row,
         rising_two: rising_two + side + row / 2,
         down: rising_two + 2 * twos,
-        marks: picture.marks + row * picture.wide,
-        apart: picture.wide * high,
+        marks: channel.marks + row * channel.wide,
+        apart: channel.wide * high,
     }
 }
 
 // Matte, when light's sums and planes come right before its own.
-pub(crate) fn matte_after(light: Picture) -> Picture
+pub(crate) fn matte_after(light: Channel) -> Channel
     requires { ⌜ (0 < light .high) × (sumsEnd light < 2 ^ 64) × (marksEnd light < 2 ^ 64) ⌝ }
     ensures { λ r. ⌜ r ≡ matteAfter light ⌝ }
 {
     let starts = starts_at(light, 0);
-    Picture {
+    Channel {
         columns: light.columns,
         wide: light.wide,
         high: light.high,
@@ -175,7 +175,7 @@ fn add_boxes(
     }
 }
 
-// One row of a picture. All its sums go in one loop, so that the sum down of a cell is read and stored once. A falling line
+// One row of a channel. All its sums go in one loop, so that the sum down of a cell is read and stored once. A falling line
 // counts with its mark, and a rising line before its mark is taken off.
 fn sum_row(scratch: &mut [u64], planes: &[u64], starts: Starts, columns: usize)
     requires { ⌜ InOrder starts columns (length (now scratch)) (length (now planes)) ⌝ }
@@ -246,28 +246,28 @@ fn lay_row(scratch: &mut [u64], planes: &[u64], starts: Starts, columns: usize)
     }
 }
 
-// A picture's sums before the first row, whatever the scratch held. Rising lines have all their marks then: the sum of a line
+// A channel's sums before the first row, whatever the scratch held. Rising lines have all their marks then: the sum of a line
 // from its foot to a row is what is left of it when the rows above that row have taken their marks off. So the sums down need no
 // second pass over the rows.
-pub(crate) fn start_sums(scratch: &mut [u64], planes: &[u64], picture: Picture)
-    requires { ⌜ PictureIn picture (now scratch) (now planes) ⌝ }
-    ensures { λ _. ⌜ Summed picture (now (planes .entry)) (now (scratch .entry)) (now (scratch .exit)) 0 ⌝ }
+pub(crate) fn start_sums(scratch: &mut [u64], planes: &[u64], channel: Channel)
+    requires { ⌜ ChannelIn channel (now scratch) (now planes) ⌝ }
+    ensures { λ _. ⌜ Summed channel (now (planes .entry)) (now (scratch .entry)) (now (scratch .exit)) 0 ⌝ }
 {
-    let starts = starts_at(picture, 0);
-    let first = picture.sums;
-    let end = starts.down + picture.columns;
+    let starts = starts_at(channel, 0);
+    let first = channel.sums;
+    let end = starts.down + channel.columns;
     clear(&mut scratch[first..end]);
-    let mut row = picture.high;
+    let mut row = channel.high;
     while 0 < row {
         row -= 1;
-        lay_row(scratch, planes, starts_at(picture, row), picture.columns);
+        lay_row(scratch, planes, starts_at(channel, row), channel.columns);
     }
 }
 
-// A picture's sums, one row further.
-pub(crate) fn sum_next(scratch: &mut [u64], planes: &[u64], picture: Picture, row: usize)
-    requires { ⌜ RowReady picture (now scratch) (now planes) row ⌝ }
-    ensures { λ _. ⌜ Summed picture (now (planes .entry)) (now (scratch .entry)) (now (scratch .exit)) (row + 1) ⌝ }
+// A channel's sums, one row further.
+pub(crate) fn sum_next(scratch: &mut [u64], planes: &[u64], channel: Channel, row: usize)
+    requires { ⌜ RowReady channel (now scratch) (now planes) row ⌝ }
+    ensures { λ _. ⌜ Summed channel (now (planes .entry)) (now (scratch .entry)) (now (scratch .exit)) (row + 1) ⌝ }
 {
-    sum_row(scratch, planes, starts_at(picture, row), picture.columns);
+    sum_row(scratch, planes, starts_at(channel, row), channel.columns);
 }

@@ -1,8 +1,8 @@
 // Show: the planes finished into the two pictures. One pass over the rows sums light and matte side by side and rounds each row
-// of the image at once, so that no picture's sums are ever stored.
+// of the image at once, so that no channel's sums are ever stored.
 use crate::check::check_show;
 use crate::clear::clear;
-use crate::pass::Picture;
+use crate::pass::Channel;
 use crate::pass::matte_after;
 use crate::pass::start_sums;
 use crate::pass::sum_next;
@@ -19,7 +19,7 @@ ghost use Prim.Native.Nat.{_+_};
 ghost use Rattle.plate_model.specs.Lent.{viewsAtEntry, viewsAtExit};
 ghost use Rattle.plate_model.specs.Calls.{showCall, shows};
 ghost use Rattle.plate_model.specs.Table.{LawfulSize};
-ghost use Rattle.plate.specs.Showing.{lightPicture, BothIn, AboveReady, BothReady, BothSummed, RowIn, RowShown, ImageReady, ShownTo, ShowReady, ShowDone};
+ghost use Rattle.plate.specs.Showing.{lightChannel, BothIn, AboveReady, BothReady, BothSummed, RowIn, RowShown, ImageReady, ShownTo, ShowReady, ShowDone};
 
 // The image in a padded plane: its first column, which is its first row as well, and its sizes.
 pub(crate) struct Image {
@@ -29,12 +29,12 @@ pub(crate) struct Image {
 }
 
 // Light of a plate's planes: it is summed up to the image's last column, since no sum goes leftwards.
-pub(crate) fn light_picture(size: Size) -> Picture
+pub(crate) fn light_channel(size: Size) -> Channel
     requires { ⌜ LawfulSize size ⌝ }
-    ensures { λ r. ⌜ r ≡ lightPicture size ⌝ }
+    ensures { λ r. ⌜ r ≡ lightChannel size ⌝ }
 {
     let frame = frame_of(size);
-    Picture {
+    Channel {
         columns: size.reach + MARGIN + size.width,
         wide: frame.wide,
         high: frame.high,
@@ -43,8 +43,8 @@ pub(crate) fn light_picture(size: Size) -> Picture
     }
 }
 
-// Both pictures' sums, before the first row.
-fn lay_both(scratch: &mut [u64], planes: &[u64], light: Picture)
+// Both channels' sums, before the first row.
+fn lay_both(scratch: &mut [u64], planes: &[u64], light: Channel)
     requires { ⌜ BothIn light (now scratch) (now planes) ⌝ }
     ensures { λ _. ⌜ BothSummed light (now (planes .entry)) (now (scratch .entry)) (now (scratch .exit)) 0 ⌝ }
 {
@@ -53,8 +53,8 @@ fn lay_both(scratch: &mut [u64], planes: &[u64], light: Picture)
     start_sums(scratch, planes, matte);
 }
 
-// Both pictures' sums, one row further.
-pub(crate) fn sum_both(scratch: &mut [u64], planes: &[u64], light: Picture, row: usize)
+// Both channels' sums, one row further.
+pub(crate) fn sum_both(scratch: &mut [u64], planes: &[u64], light: Channel, row: usize)
     requires { ⌜ BothReady light (now scratch) (now planes) row ⌝ }
     ensures { λ _. ⌜ BothSummed light (now (planes .entry)) (now (scratch .entry)) (now (scratch .exit)) (row + 1) ⌝ }
 {
@@ -64,7 +64,7 @@ pub(crate) fn sum_both(scratch: &mut [u64], planes: &[u64], light: Picture, row:
 }
 
 // The rows above the image: they are summed, and nothing is shown of them.
-pub(crate) fn sum_above(scratch: &mut [u64], planes: &[u64], light: Picture, rows: usize)
+pub(crate) fn sum_above(scratch: &mut [u64], planes: &[u64], light: Channel, rows: usize)
     requires { ⌜ AboveReady light (now scratch) (now planes) rows ⌝ }
     ensures { λ _. ⌜ BothSummed light (now (planes .entry)) (now (scratch .entry)) (now (scratch .exit)) rows ⌝ }
 {
@@ -101,7 +101,7 @@ fn show_rows(
     mattes: &mut [u8],
     scratch: &mut [u64],
     planes: &[u64],
-    light: Picture,
+    light: Channel,
     image: Image,
 )
     requires { ⌜ ImageReady light image (now scratch) (now planes) (now values) (now mattes) ⌝ }
@@ -140,7 +140,7 @@ fn show_all(
     ensures { λ _. ⌜ ShowDone state (now (planes .entry)) (viewsAtEntry scratch values mattes) (viewsAtExit scratch values mattes) ⌝ }
 {
     let size = state.size;
-    let light = light_picture(size);
+    let light = light_channel(size);
     let image = Image {
         first: size.reach + MARGIN,
         width: size.width,

@@ -1,8 +1,8 @@
-// The light and matte that a plate holds in all: the finished cells of the two padded pictures, added up. The sums of a row are
-// show's; here the pictures go one after the other, since the scratch of a small plate has no room for all columns of both.
+// The light and matte that a plate holds in all: the finished cells of the two padded channels, added up. The sums of a row are
+// show's; here the channels go one after the other, since the scratch of a small plate has no room for all columns of both.
 use crate::check::check_total;
 use crate::clear::clear;
-use crate::pass::Picture;
+use crate::pass::Channel;
 use crate::pass::start_sums;
 use crate::pass::starts_at;
 use crate::pass::sum_next;
@@ -19,8 +19,8 @@ ghost use Prim.Native.Nat.{_+_, _%_, _^_, _≤_};
 ghost use lib.ListN.{length, getD};
 ghost use Rattle.kernels_model.specs.Sum.{sum as sumOf};
 ghost use Rattle.plate_model.specs.Total.{totalled, totalCall};
-ghost use Rattle.plate.specs.Passes.{PictureIn};
-ghost use Rattle.plate.specs.Totalling.{wholePicture, AddedUp, TotalReady, TotalDone};
+ghost use Rattle.plate.specs.Passes.{ChannelIn};
+ghost use Rattle.plate.specs.Totalling.{wholeChannel, AddedUp, TotalReady, TotalDone};
 
 // A run of cells, added to a sum.
 fn add_cells(cells: &[u64], first: usize, count: usize, to: u64) -> u64
@@ -34,26 +34,26 @@ fn add_cells(cells: &[u64], first: usize, count: usize, to: u64) -> u64
     sum
 }
 
-// All finished cells of the picture whose marks start at `marks`, added up row by row, to the last one.
+// All finished cells of the channel whose marks start at `marks`, added up row by row, to the last one.
 fn add_up(scratch: &mut [u64], planes: &[u64], frame: Frame, marks: usize) -> u64
-    requires { ⌜ PictureIn (wholePicture frame marks) (now scratch) (now planes) ⌝ }
-    ensures { λ r. ⌜ AddedUp (wholePicture frame marks) (now (planes .entry)) (now (scratch .entry)) (now (scratch .exit)) (frame .high) r ⌝ }
+    requires { ⌜ ChannelIn (wholeChannel frame marks) (now scratch) (now planes) ⌝ }
+    ensures { λ r. ⌜ AddedUp (wholeChannel frame marks) (now (planes .entry)) (now (scratch .entry)) (now (scratch .exit)) (frame .high) r ⌝ }
 {
     let columns = frame.wide;
     let high = frame.high;
-    let picture = Picture {
+    let channel = Channel {
         columns: columns,
         wide: columns,
         high: high,
         sums: 0,
         marks: marks,
     };
-    start_sums(scratch, planes, picture);
-    let starts = starts_at(picture, 0);
+    start_sums(scratch, planes, channel);
+    let starts = starts_at(channel, 0);
     let down = starts.down;
     let mut sum = 0;
     for row in 0..high {
-        sum_next(scratch, planes, picture, row);
+        sum_next(scratch, planes, channel, row);
         sum = add_cells(scratch, down, columns, sum);
     }
     sum

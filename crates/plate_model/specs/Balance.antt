@@ -7,7 +7,7 @@ use Rattle.kernels_model.specs.Fixed.{unit}
 use Rattle.kernels_model.specs.Sum.{sum}
 use Rattle.plate_model.specs.Fixed.{scratchPlanes}
 use Rattle.plate_model.specs.Layout.{Size, padded, places}
-use Rattle.plate_model.specs.Lent.{Lent, sizedAs}
+use Rattle.plate_model.specs.Lent.{Lent, lengthsOf}
 use Rattle.plate_model.specs.Word.{Pixel}
 use Rattle.plate_model.specs.Refusal.{Accepted, openCheck}
 use Rattle.plate_model.specs.Calls.{answerOf, zeros, openCall}
@@ -26,13 +26,13 @@ hadBy z grid worth = unit * sum (λ j. worth (pixelAt grid j)) (places z)
 -- neither product reaches 2^64, so that nothing is wrapped
 abbrev pub Balances : Type 0
 Balances =
-    (z : Size) (l : Lent) (calls : List Call) (scratch : List ℕ) → openCheck z (sizedAs l) ≡ Accepted
+    (z : Size) (l : Lent) (calls : List Call) (scratch : List ℕ) → openCheck z (lengthsOf l) ≡ Accepted
     → length scratch ≡ scratchPlanes * padded z →
     let p = plateAfter (leftBy (openCall z l)) calls in
     let grid = bookAfter (openBook z (length (l .log))) calls .grid in
     let matte = hadBy z grid matteOf in
     let light = hadBy z grid lightOf in
-    (totalCall (p .state) (p .kept .planes) scratch
+    (totalCall (p .state) (p .buffers .planes) scratch
     ≡ totalled (totalsOf (answerOf Accepted 0 (p .state)) matte light) (zeros (length scratch)))
     × (matte < 2 ^ 64)
     × (light < 2 ^ 64)

@@ -5,13 +5,13 @@ use lib.ListN.{getD, set, length, replicate}
 use Rattle.kernels_model.specs.Fixed.{planesEach}
 use Rattle.kernels_model.specs.Choice.{within}
 use Rattle.kernels_model.specs.Sum.{Planes, finish}
-use Rattle.kernels_model.specs.declared.shape.Shape.{Shape as ShapeOf}
+use Rattle.kernels_model.specs.declared.shape.Shape.{Shape}
 use Rattle.kernels_model.specs.Shape.{shapeOf, topUnder}
-use Rattle.kernels_model.specs.declared.lens.Lens.{Lens as LensOf}
+use Rattle.kernels_model.specs.declared.lens.Lens.{Lens}
 use Rattle.kernels_model.specs.Lens.{blur}
 use Rattle.kernels_model.specs.Rounding.{shownValue, shownMatte}
 use Rattle.plate_model.specs.Layout.{Size, sizeFrom, wide, high, cell, places, columnOf, rowOf}
-use Rattle.plate_model.specs.Lent.{State, stateOf, Lent, lent, sizedAs, Ask, Inputs, Views, views}
+use Rattle.plate_model.specs.Lent.{State, stateOf, Lent, lent, lengthsOf, Ask, Inputs, Views, views}
 use Rattle.plate_model.specs.Word.{Pixel, wordOf, loggedAs}
 use Rattle.plate_model.specs.Kernel.{markCount}
 use Rattle.plate_model.specs.Refusal.{Answer, Refusal, Outcome, Accepted, Refused, openCheck, fillCheck, showCheck}
@@ -21,10 +21,10 @@ use Rattle.plate_model.specs.Marks.{exchanged, layGrid}
 -- what a call answers, and what it leaves of planes, pixels and log
 pub record Left : Type 0 where
   pub answer : Answer
-  pub kept : Lent
+  pub buffers : Lent
 
 abbrev pub leaves : Answer → Lent → Left
-leaves a l = record { answer = a; kept = l }
+leaves a l = record { answer = a; buffers = l }
 
 abbrev pub left : Answer → List ℕ → List ℕ → List ℕ → Left
 left a planes pixels log = leaves a (lent planes pixels log)
@@ -53,7 +53,7 @@ openBy Accepted z l =
 openBy (Refused f) z l = refused f (stateOf (sizeFrom 0 0 0) 0) l
 
 unfoldable pub openCall : Size → Lent → Left
-openCall z l = openBy (openCheck z (sizedAs l)) z l
+openCall z l = openBy (openCheck z (lengthsOf l)) z l
 
 -- PUT AND UNDO
 -- The old pixel's marks are taken off, the new one's laid, and its word is stored. They report "the table's marks of the old
@@ -72,7 +72,7 @@ putBy (ToChange c) s l =
     changed c s (s .count + 1) (set (l .log) (s .count) (loggedAs (getD (l .pixels) (c .place) 0) (c .place))) l
 
 unfoldable pub putCall : State → Ask → Lent → Left
-putCall s a l = putBy (putRead s a (sizedAs l) (l .pixels)) s l
+putCall s a l = putBy (putRead s a (lengthsOf l) (l .pixels)) s l
 
 -- "Undo restores the last logged word, marks too, zeroes that entry and lowers the count by one."
 unfoldable pub undoBy : ChangeRead → State → Lent → Left
@@ -80,11 +80,11 @@ undoBy (NoChange f) s l = refused f s l
 undoBy (ToChange c) s l = changed c s (s .count - 1) (set (l .log) (s .count - 1) 0) l
 
 unfoldable pub undoCall : State → Lent → Left
-undoCall s l = undoBy (undoRead s (sizedAs l) (l .pixels) (l .log)) s l
+undoCall s l = undoBy (undoRead s (lengthsOf l) (l .pixels) (l .log)) s l
 
 -- FILL
 -- "every pixel gets its value, its opacity, the one shape and the radius from its depth", "then at most the shape's top under R"
-unfoldable pub filled : Size → LensOf → ShapeOf → Inputs → ℕ → Pixel
+unfoldable pub filled : Size → Lens → Shape → Inputs → ℕ → Pixel
 filled z l s f i =
     record {
       value = getD (f .values) i 0;
@@ -94,7 +94,7 @@ filled z l s f i =
     }
 
 -- "Fill .. replaces everything and sets every log entry and the log count to 0."
-unfoldable pub fillBy : Outcome → State → LensOf → ℕ → Inputs → Lent → Left
+unfoldable pub fillBy : Outcome → State → Lens → ℕ → Inputs → Lent → Left
 fillBy (Refused g) s o n f l = refused g s l
 fillBy Accepted s o n f l =
     let z = s .size in
@@ -104,8 +104,8 @@ fillBy Accepted s o n f l =
     (map wordOf (listTo pixel (places z)))
     (zeros (length (l .log)))
 
-unfoldable pub fillCall : State → LensOf → ℕ → Inputs → Lent → Left
-fillCall s o n f l = fillBy (fillCheck s o n f (sizedAs l)) s o n f l
+unfoldable pub fillCall : State → Lens → ℕ → Inputs → Lent → Left
+fillCall s o n f l = fillBy (fillCheck s o n f (lengthsOf l)) s o n f l
 
 -- SHOW
 -- a picture's planes, from plane p on, 0 outside

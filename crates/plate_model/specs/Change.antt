@@ -3,12 +3,12 @@
 use mathlib.Core.List.{List}
 use Prim.Native.Nat.{ℕ, _+_, _*_, _-_, _/_, _%_}
 use lib.ListN.{getD}
-use Rattle.kernels_model.specs.declared.shape.Shape.{Shape as ShapeOf}
+use Rattle.kernels_model.specs.declared.shape.Shape.{Shape}
 use Rattle.kernels_model.specs.declared.shape.ShapeRead.{ShapeRead}
 use Rattle.kernels_model.specs.declared.shape.ShapeRead.the-variants.{Known, Unknown}
 use Rattle.kernels_model.specs.Shape.{shapeOf}
 use Rattle.plate_model.specs.Layout.{Size}
-use Rattle.plate_model.specs.Lent.{State, Ask, Sized}
+use Rattle.plate_model.specs.Lent.{State, Ask, LentLengths}
 use Rattle.plate_model.specs.Word.{Pixel, empty, Unpacked, Whole, Broken, readWord, Entry, EntryRead, Logged, Unreadable, readEntry}
 use Rattle.plate_model.specs.Refusal.{StoredWord, Outcome, Accepted, Refused, putCheck, undoCheck}
 pub use Rattle.plate_model.specs.declared.change.Change.{Change}
@@ -21,7 +21,7 @@ abbrev pub askedPlace : Size → Ask → ℕ
 askedPlace z a = a .y * z .width + a .x
 
 -- the pixel that an accepted put asks for; a put with no shape is never accepted
-abbrev pub knownShape : ShapeRead → ShapeOf
+abbrev pub knownShape : ShapeRead → Shape
 knownShape (Known s) = s
 knownShape Unknown = empty .shape
 
@@ -39,7 +39,7 @@ putReadBy (Refused f) z a pixels = NoChange f
 putReadBy Accepted z a pixels = putOver (readWord (z .reach) (getD pixels (askedPlace z a) 0)) z a
 
 -- by the lengths of what is lent, and the pixels
-unfoldable pub putRead : State → Ask → Sized → List ℕ → ChangeRead
+unfoldable pub putRead : State → Ask → LentLengths → List ℕ → ChangeRead
 putRead s a n pixels = putReadBy (putCheck s a n) (s .size) a pixels
 
 -- UNDO
@@ -60,5 +60,5 @@ undoReadBy (Refused f) s pixels log = NoChange f
 undoReadBy Accepted s pixels log = undoEntry (readEntry (s .size) (getD log (s .count - 1) 0)) (s .size) pixels
 
 -- by the lengths of what is lent, the pixels and the log
-unfoldable pub undoRead : State → Sized → List ℕ → List ℕ → ChangeRead
+unfoldable pub undoRead : State → LentLengths → List ℕ → List ℕ → ChangeRead
 undoRead s n pixels log = undoReadBy (undoCheck s n) s pixels log

@@ -3,7 +3,7 @@ use mathlib.Core.Path.{_≡_}
 use mathlib.Core.List.{List, [], _∷_}
 use Prim.Native.Nat.{_≤_}
 use Rattle.plate_model.specs.Layout.{Size}
-use Rattle.plate_model.specs.Lent.{Lent, sizedAs}
+use Rattle.plate_model.specs.Lent.{Lent, lengthsOf}
 use Rattle.plate_model.specs.Refusal.{Accepted, openCheck}
 use Rattle.plate_model.specs.Calls.{openCall}
 use Rattle.plate_model.specs.Notebook.{Report}
@@ -34,5 +34,5 @@ Counted (c ∷ cs) (r ∷ rs) = CountOf c r × Counted cs rs
 -- in every list after an accepted open
 abbrev pub ListsCounted : Type 0
 ListsCounted =
-    (z : Size) (l : Lent) (calls : List Call) → openCheck z (sizedAs l) ≡ Accepted
+    (z : Size) (l : Lent) (calls : List Call) → openCheck z (lengthsOf l) ≡ Accepted
     → Counted calls (plateReports (leftBy (openCall z l)) calls)

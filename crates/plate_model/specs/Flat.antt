@@ -7,7 +7,7 @@ use Rattle.kernels_model.specs.Sum.{dist}
 use Rattle.kernels_model.specs.Shape.{reachOf}
 use Rattle.plate_model.specs.Layout.{Size, places}
 use Rattle.plate_model.specs.Word.{Pixel, Fits}
-use Rattle.plate_model.specs.Lent.{Lent, sizedAs, Views}
+use Rattle.plate_model.specs.Lent.{Lent, lengthsOf, Views}
 use Rattle.plate_model.specs.Refusal.{Accepted, openCheck, viewsCheck}
 use Rattle.plate_model.specs.Calls.{openCall, showCall}
 use Rattle.plate_model.specs.Plain.{pixelAt, weightAt, plainValues, plainMattes}
@@ -47,9 +47,9 @@ FlatShows =
 -- and so it is seen in every accepted show of a plate after a list of calls that left the notebook's grid flat there
 abbrev pub FlatSeen : Type 0
 FlatSeen =
-    (z : Size) (l : Lent) (calls : List Call) (v : Views) (p : Pixel) (i : ℕ) → openCheck z (sizedAs l) ≡ Accepted
+    (z : Size) (l : Lent) (calls : List Call) (v : Views) (p : Pixel) (i : ℕ) → openCheck z (lengthsOf l) ≡ Accepted
     → viewsCheck z (length (v .scratch)) (length (v .values)) (length (v .mattes)) ≡ Accepted
     → 0 < p .opacity → FlatAt z (bookAfter (openBook z (length (l .log))) calls .grid) p i →
     let plate = plateAfter (leftBy (openCall z l)) calls in
-    let seen = showCall (plate .state) (plate .kept .planes) v .seen in
+    let seen = showCall (plate .state) (plate .buffers .planes) v .seen in
     (getD (seen .values) i 0 ≡ p .value) × (getD (seen .mattes) i 0 ≡ p .opacity)

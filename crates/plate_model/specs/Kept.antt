@@ -10,7 +10,7 @@ use Rattle.kernels_model.specs.Sum.{dist}
 use Rattle.kernels_model.specs.Mark.{minus}
 use Rattle.kernels_model.specs.Rounding.{shownValue, shownMatte}
 use Rattle.plate_model.specs.Layout.{Size, places, matteFrom}
-use Rattle.plate_model.specs.Lent.{State, Lent, sizedAs, Ask, Views, Canvas, canvas}
+use Rattle.plate_model.specs.Lent.{State, Lent, lengthsOf, Ask, Views, Canvas, canvas}
 use Rattle.plate_model.specs.Word.{Pixel}
 use Rattle.plate_model.specs.Kernel.{tapOf}
 use Rattle.plate_model.specs.Refusal.{Answer, Outcome, Accepted, Refused, keptCheck, showKeptCheck}
@@ -90,13 +90,13 @@ unfoldable pub putKeptBy : ChangeRead → State → Lent → Canvas → Refreshe
 putKeptBy r s l k = record { call = putBy r s l; canvas = canvasBy r (s .size) k }
 
 unfoldable pub putKeptCall : State → Ask → Lent → Canvas → Refreshed
-putKeptCall s a l k = putKeptBy (keptRead (canvasFirst (s .size) k) (putRead s a (sizedAs l) (l .pixels))) s l k
+putKeptCall s a l k = putKeptBy (keptRead (canvasFirst (s .size) k) (putRead s a (lengthsOf l) (l .pixels))) s l k
 
 unfoldable pub undoKeptBy : ChangeRead → State → Lent → Canvas → Refreshed
 undoKeptBy r s l k = record { call = undoBy r s l; canvas = canvasBy r (s .size) k }
 
 unfoldable pub undoKeptCall : State → Lent → Canvas → Refreshed
-undoKeptCall s l k = undoKeptBy (keptRead (canvasFirst (s .size) k) (undoRead s (sizedAs l) (l .pixels) (l .log))) s l k
+undoKeptCall s l k = undoKeptBy (keptRead (canvasFirst (s .size) k) (undoRead s (lengthsOf l) (l .pixels) (l .log))) s l k
 
 -- SHOW
 -- "The show also fills the buffer with the finished sums of the image cells."

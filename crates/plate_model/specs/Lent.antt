@@ -7,7 +7,7 @@ use denote.Triple.Both.{Both}
 use Rattle.plate_model.specs.Layout.{Size}
 pub use Rattle.plate_model.specs.declared.state.State.{State}
 pub use Rattle.plate_model.specs.declared.lent.Ask.{Ask}
-pub use Rattle.plate_model.specs.declared.lent.Sized.{Sized}
+pub use Rattle.plate_model.specs.declared.lent.LentLengths.{LentLengths}
 
 -- "The state is W, H, R and the log count."
 abbrev pub stateOf : Size → ℕ → State
@@ -23,11 +23,11 @@ abbrev pub lent : List ℕ → List ℕ → List ℕ → Lent
 lent planes pixels log = record { planes = planes; pixels = pixels; log = log }
 
 -- the lengths of what is lent
-abbrev pub sized : ℕ → ℕ → ℕ → Sized
-sized planes pixels log = record { planes = planes; pixels = pixels; log = log }
+abbrev pub lentLengths : ℕ → ℕ → ℕ → LentLengths
+lentLengths planes pixels log = record { planes = planes; pixels = pixels; log = log }
 
-abbrev pub sizedAs : Lent → Sized
-sizedAs l = sized (length (l .planes)) (length (l .pixels)) (length (l .log))
+abbrev pub lengthsOf : Lent → LentLengths
+lengthsOf l = lentLengths (length (l .planes)) (length (l .pixels)) (length (l .log))
 
 -- a put's arguments
 abbrev pub ask : ℕ → ℕ → ℕ → ℕ → ℕ → ℕ → Ask

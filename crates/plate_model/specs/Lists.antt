@@ -3,16 +3,16 @@ use mathlib.Core.Path.{_≡_}
 use mathlib.Core.List.{List, [], _∷_, map}
 use Prim.Native.Nat.{ℕ, _*_, _<_}
 use lib.ListN.{getD, length}
-use Rattle.kernels_model.specs.declared.lens.Lens.{Lens as LensOf}
+use Rattle.kernels_model.specs.declared.lens.Lens.{Lens}
 use Rattle.plate_model.specs.Fixed.{planesInAll}
 use Rattle.plate_model.specs.Layout.{Size, padded}
 use Rattle.plate_model.specs.Word.{wordOf}
-use Rattle.plate_model.specs.Lent.{State, Lent, sizedAs, ask, inputs, Views, Canvas}
+use Rattle.plate_model.specs.Lent.{State, Lent, lengthsOf, ask, inputs, Views, Canvas}
 use Rattle.plate_model.specs.Refusal.{Outcome, Accepted, Refused, outcomeNumber, openCheck, viewsCheck}
 use Rattle.plate_model.specs.Calls.{Left, Shown, shown, answerOf, zeros, openCall, putCall, undoCall, fillCall, showCall}
 use Rattle.plate_model.specs.Kept.{putKeptCall, undoKeptCall, showKeptCall}
 use Rattle.plate_model.specs.Plain.{plainValues, plainMattes, gridCell}
-use Rattle.plate_model.specs.Notebook.{Book, openBook, both, Report, plain, Turn, bookPut, bookUndo, bookFill, bookShow, bookPutKept, bookUndoKept, bookShowKept, logOf}
+use Rattle.plate_model.specs.Notebook.{Book, openBook, both, Report, plain, BookLeft, bookPut, bookUndo, bookFill, bookShow, bookPutKept, bookUndoKept, bookShowKept, logOf}
 
 -- "Opacity and radius come as bytes."
 pub record Byte : Type 0 where
@@ -26,7 +26,7 @@ codes bs = map (λ (b : Byte). b .code) bs
 pub data Call : Type 0 where
   putIt : (x y value : ℕ) → (opacity : Byte) → (shape : ℕ) → (radius : Byte) → Call
   undoIt : Call
-  fillIt : LensOf → (shape : ℕ) → (values : List ℕ) → (opacities : List Byte) → (depths : List ℕ) → Call
+  fillIt : Lens → (shape : ℕ) → (values : List ℕ) → (opacities : List Byte) → (depths : List ℕ) → Call
   showIt : Views → Call
   -- "Lists of demand 3 may use either form of a call"
   putKeptIt : (x y value : ℕ) → (opacity : Byte) → (shape : ℕ) → (radius : Byte) → Canvas → Call
@@ -37,14 +37,14 @@ pub data Call : Type 0 where
 -- call before handed back"
 pub record Plate : Type 0 where
   pub state : State
-  pub kept : Lent
+  pub buffers : Lent
 
 pub record Step : Type 0 where
   pub report : Report
   pub plate : Plate
 
 abbrev pub leftBy : Left → Plate
-leftBy l = record { state = l .answer .state; kept = l .kept }
+leftBy l = record { state = l .answer .state; buffers = l .buffers }
 
 abbrev pub stepOf : Left → Step
 stepOf l = record { report = plain (outcomeNumber (l .answer .outcome)) (l .answer .marks); plate = leftBy l }
@@ -58,19 +58,19 @@ abbrev pub shownTo : Plate → Shown → Step
 shownTo p s =
     record {
       report = seenBy (s .answer .outcome) (s .answer .marks) (s .seen);
-      plate = record { state = s .answer .state; kept = p .kept };
+      plate = record { state = s .answer .state; buffers = p .buffers };
     }
 
 unfoldable pub plateStep : Plate → Call → Step
-plateStep p (putIt x y v a s r) = stepOf (putCall (p .state) (ask x y v (a .code) s (r .code)) (p .kept))
-plateStep p undoIt = stepOf (undoCall (p .state) (p .kept))
-plateStep p (fillIt o s vs bs zs) = stepOf (fillCall (p .state) o s (inputs vs (codes bs) zs) (p .kept))
-plateStep p (showIt v) = shownTo p (showCall (p .state) (p .kept .planes) v)
-plateStep p (putKeptIt x y v a s r k) = stepOf (putKeptCall (p .state) (ask x y v (a .code) s (r .code)) (p .kept) k .call)
-plateStep p (undoKeptIt k) = stepOf (undoKeptCall (p .state) (p .kept) k .call)
-plateStep p (showKeptIt v sums) = shownTo p (showKeptCall (p .state) (p .kept .planes) v sums .call)
+plateStep p (putIt x y v a s r) = stepOf (putCall (p .state) (ask x y v (a .code) s (r .code)) (p .buffers))
+plateStep p undoIt = stepOf (undoCall (p .state) (p .buffers))
+plateStep p (fillIt o s vs bs zs) = stepOf (fillCall (p .state) o s (inputs vs (codes bs) zs) (p .buffers))
+plateStep p (showIt v) = shownTo p (showCall (p .state) (p .buffers .planes) v)
+plateStep p (putKeptIt x y v a s r k) = stepOf (putKeptCall (p .state) (ask x y v (a .code) s (r .code)) (p .buffers) k .call)
+plateStep p (undoKeptIt k) = stepOf (undoKeptCall (p .state) (p .buffers) k .call)
+plateStep p (showKeptIt v sums) = shownTo p (showKeptCall (p .state) (p .buffers .planes) v sums .call)
 
-unfoldable pub bookStep : Book → Call → Turn
+unfoldable pub bookStep : Book → Call → BookLeft
 bookStep b (putIt x y v a s r) = bookPut b (ask x y v (a .code) s (r .code))
 bookStep b undoIt = bookUndo b
 bookStep b (fillIt o s vs bs zs) = bookFill b o s (inputs vs (codes bs) zs)
@@ -100,17 +100,17 @@ bookAfter b (c ∷ cs) = bookAfter (bookStep b c .book) cs
 -- log with the pile's pairs as entries .., the log count with the pile's height"
 pub record Holds (p : Plate) (b : Book) : Type 0 where
   pub sizes : p .state .size ≡ b .size
-  pub cells : length (p .kept .planes) ≡ planesInAll * padded (b .size)
-  pub each-cell : (k : ℕ) → k < planesInAll * padded (b .size) → getD (p .kept .planes) k 0 ≡ gridCell (b .size) (b .grid) k
-  pub words : p .kept .pixels ≡ map wordOf (b .grid)
-  pub entries : p .kept .log ≡ logOf (b .room) (b .pile)
+  pub cells : length (p .buffers .planes) ≡ planesInAll * padded (b .size)
+  pub each-cell : (k : ℕ) → k < planesInAll * padded (b .size) → getD (p .buffers .planes) k 0 ≡ gridCell (b .size) (b .grid) k
+  pub words : p .buffers .pixels ≡ map wordOf (b .grid)
+  pub entries : p .buffers .log ≡ logOf (b .room) (b .pile)
   pub count : p .state .count ≡ length (b .pile)
 
 -- DEMAND 3: for every accepted open and every list of calls the reports are the notebook's, and the plate then holds what the
 -- notebook holds
 abbrev pub Demand3 : Type 0
 Demand3 =
-    (z : Size) (l : Lent) (calls : List Call) → openCheck z (sizedAs l) ≡ Accepted →
+    (z : Size) (l : Lent) (calls : List Call) → openCheck z (lengthsOf l) ≡ Accepted →
     let p = leftBy (openCall z l) in
     let b = openBook z (length (l .log)) in
     (plateReports p calls ≡ bookReports b calls) × Holds (plateAfter p calls) (bookAfter b calls)
@@ -119,9 +119,9 @@ Demand3 =
 -- the notebook's grid, and leaves scratch all zero
 abbrev pub Demand2 : Type 0
 Demand2 =
-    (z : Size) (l : Lent) (calls : List Call) (v : Views) → openCheck z (sizedAs l) ≡ Accepted
+    (z : Size) (l : Lent) (calls : List Call) (v : Views) → openCheck z (lengthsOf l) ≡ Accepted
     → viewsCheck z (length (v .scratch)) (length (v .values)) (length (v .mattes)) ≡ Accepted →
     let p = plateAfter (leftBy (openCall z l)) calls in
     let grid = bookAfter (openBook z (length (l .log))) calls .grid in
-    showCall (p .state) (p .kept .planes) v
+    showCall (p .state) (p .buffers .planes) v
     ≡ shown (answerOf Accepted 0 (p .state)) (zeros (length (v .scratch))) (plainValues z grid) (plainMattes z grid)

@@ -3,7 +3,7 @@ use mathlib.Core.List.{List, [], _∷_, _++_}
 use Prim.Native.Nat.{ℕ, _+_, _-_}
 use lib.ListN.{set, length, replicate}
 use Rattle.kernels_model.specs.Shape.{shapeOf}
-use Rattle.kernels_model.specs.declared.lens.Lens.{Lens as LensOf}
+use Rattle.kernels_model.specs.declared.lens.Lens.{Lens}
 use Rattle.plate_model.specs.Layout.{Size, places}
 use Rattle.plate_model.specs.Word.{Pixel, empty, Entry, entryOf}
 use Rattle.plate_model.specs.Kernel.{markCount}
@@ -41,78 +41,78 @@ abbrev pub plain : ℕ → ℕ → Report
 plain n m = record { number = n; marks = m; pictures = none }
 
 -- what a call gives: its report, and the notebook after it
-pub record Turn : Type 0 where
+pub record BookLeft : Type 0 where
   pub report : Report
   pub book : Book
 
-abbrev pub turn : Report → Book → Turn
-turn r b = record { report = r; book = b }
+abbrev pub bookLeft : Report → Book → BookLeft
+bookLeft r b = record { report = r; book = b }
 
 -- "a refused call changes neither grid nor pile and reports 0 marks"
-abbrev pub turnedDown : Outcome → Book → Turn
-turnedDown o b = turn (plain (outcomeNumber o) 0) b
+abbrev pub bookRefused : Outcome → Book → BookLeft
+bookRefused o b = bookLeft (plain (outcomeNumber o) 0) b
 
 -- "Put: the place and its old pixel go on the pile, the new pixel into the grid." It reports "the marks of the shape that left
 -- the grid plus those of the shape that came".
-unfoldable pub bookPutBy : Outcome → Book → Ask → Turn
-bookPutBy (Refused f) b a = turnedDown (Refused f) b
+unfoldable pub bookPutBy : Outcome → Book → Ask → BookLeft
+bookPutBy (Refused f) b a = bookRefused (Refused f) b
 bookPutBy Accepted b a =
     let i = askedPlace (b .size) a in
     let old = pixelAt (b .grid) i in
     let new = askedPixel a in
-    turn (plain 0 (markCount old + markCount new))
+    bookLeft (plain 0 (markCount old + markCount new))
     (bookOf (b .size) (b .room) (set (b .grid) i new) (record { place = i; pixel = old } ∷ b .pile))
 
 -- "the count in 8 and 9 is the height of its pile"
-unfoldable pub bookPut : Book → Ask → Turn
+unfoldable pub bookPut : Book → Ask → BookLeft
 bookPut b a = bookPutBy (askCheck (b .size) (length (b .pile)) (b .room) a) b a
 
 -- "Undo: the top of the pile comes off, and its pixel goes back to its place."
-unfoldable pub bookUndoOf : Size → ℕ → List Pixel → List Entry → Turn
-bookUndoOf z room grid [] = turnedDown (Refused LogEmpty) (bookOf z room grid [])
+unfoldable pub bookUndoOf : Size → ℕ → List Pixel → List Entry → BookLeft
+bookUndoOf z room grid [] = bookRefused (Refused LogEmpty) (bookOf z room grid [])
 bookUndoOf z room grid (e ∷ pile) =
-    turn (plain 0 (markCount (pixelAt grid (e .place)) + markCount (e .pixel)))
+    bookLeft (plain 0 (markCount (pixelAt grid (e .place)) + markCount (e .pixel)))
     (bookOf z room (set grid (e .place) (e .pixel)) pile)
 
-unfoldable pub bookUndo : Book → Turn
+unfoldable pub bookUndo : Book → BookLeft
 bookUndo b = bookUndoOf (b .size) (b .room) (b .grid) (b .pile)
 
 -- "Fill: every pixel gets its value, its opacity, the one shape and the radius from its depth, and the pile is emptied."
-unfoldable pub bookFillBy : Outcome → Book → LensOf → ℕ → Inputs → Turn
-bookFillBy (Refused g) b o n f = turnedDown (Refused g) b
+unfoldable pub bookFillBy : Outcome → Book → Lens → ℕ → Inputs → BookLeft
+bookFillBy (Refused g) b o n f = bookRefused (Refused g) b
 bookFillBy Accepted b o n f =
-    turn (plain 0 0)
+    bookLeft (plain 0 0)
     (bookOf (b .size) (b .room) (listTo (filled (b .size) o (knownShape (shapeOf n)) f) (places (b .size))) [])
 
-unfoldable pub bookFill : Book → LensOf → ℕ → Inputs → Turn
+unfoldable pub bookFill : Book → Lens → ℕ → Inputs → BookLeft
 bookFill b o n f = bookFillBy
     (inputsCheck (b .size) (length (f .values)) (length (f .opacities)) (length (f .depths)) (layerCheck o n f))
     b o n f
 
 -- "Show changes nothing. Fill and show report 0."
-unfoldable pub bookShowBy : Outcome → Book → Turn
-bookShowBy (Refused f) b = turnedDown (Refused f) b
+unfoldable pub bookShowBy : Outcome → Book → BookLeft
+bookShowBy (Refused f) b = bookRefused (Refused f) b
 bookShowBy Accepted b =
-    turn (record { number = 0; marks = 0; pictures = both (plainValues (b .size) (b .grid)) (plainMattes (b .size) (b .grid)) }) b
+    bookLeft (record { number = 0; marks = 0; pictures = both (plainValues (b .size) (b .grid)) (plainMattes (b .size) (b .grid)) }) b
 
-unfoldable pub bookShow : Book → Views → Turn
+unfoldable pub bookShow : Book → Views → BookLeft
 bookShow b v = bookShowBy (viewsCheck (b .size) (length (v .scratch)) (length (v .values)) (length (v .mattes))) b
 
 -- THE SECOND FORMS: "there 2 can come from this buffer too", and else they are the first
-unfoldable pub bookKept : Outcome → Book → Turn → Turn
-bookKept (Refused f) b first = turnedDown (Refused f) b
+unfoldable pub bookKept : Outcome → Book → BookLeft → BookLeft
+bookKept (Refused f) b first = bookRefused (Refused f) b
 bookKept Accepted b first = first
 
 abbrev pub canvasWith : Book → Canvas → Outcome
 canvasWith b k = canvasCheck (b .size) (length (k .sums)) (length (k .values)) (length (k .mattes))
 
-unfoldable pub bookPutKept : Book → Ask → Canvas → Turn
+unfoldable pub bookPutKept : Book → Ask → Canvas → BookLeft
 bookPutKept b a k = bookKept (canvasWith b k) b (bookPut b a)
 
-unfoldable pub bookUndoKept : Book → Canvas → Turn
+unfoldable pub bookUndoKept : Book → Canvas → BookLeft
 bookUndoKept b k = bookKept (canvasWith b k) b (bookUndo b)
 
-unfoldable pub bookShowKept : Book → Views → List ℕ → Turn
+unfoldable pub bookShowKept : Book → Views → List ℕ → BookLeft
 bookShowKept b v sums = bookKept (sumsCheck (b .size) (length sums) Accepted) b (bookShow b v)
 
 -- "the log with the pile's pairs as entries, from its bottom, and zeros after them"

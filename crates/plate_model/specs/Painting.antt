@@ -4,7 +4,7 @@ use mathlib.Core.List.{List, [], _∷_, _++_, map}
 use Prim.Native.Nat.{ℕ, _<_}
 use lib.ListN.{length}
 use Rattle.plate_model.specs.Layout.{Size}
-use Rattle.plate_model.specs.Lent.{State, Lent, sizedAs, Ask, ask, Views, Canvas, canvas}
+use Rattle.plate_model.specs.Lent.{State, Lent, lengthsOf, Ask, ask, Views, Canvas, canvas}
 use Rattle.plate_model.specs.Refusal.{Accepted, openCheck}
 use Rattle.plate_model.specs.Calls.{openCall, valuesOf, mattesOf}
 use Rattle.plate_model.specs.Kept.{Refreshed, putKeptCall, undoKeptCall, sumsOf, ShownKept, showKeptCall}
@@ -22,32 +22,32 @@ canvasOf z planes = canvas (sumsOf z planes) (valuesOf z planes) (mattesOf z pla
 pub record StaysFresh : Type 0 where
   pub by-put : (s : State) (a : Ask) (l : Lent) → a .opacity < 256 →
       let after = putKeptCall s a l (canvasOf (s .size) (l .planes)) in
-      after .canvas ≡ canvasOf (s .size) (after .call .kept .planes)
+      after .canvas ≡ canvasOf (s .size) (after .call .buffers .planes)
   pub by-undo : (s : State) (l : Lent) →
       let after = undoKeptCall s l (canvasOf (s .size) (l .planes)) in
-      after .canvas ≡ canvasOf (s .size) (after .call .kept .planes)
+      after .canvas ≡ canvasOf (s .size) (after .call .buffers .planes)
 
 -- LISTS OF THEM
 -- a put or an undo of the second form
-pub data Dab : Type 0 where
-  dab : (x y value : ℕ) → (opacity : Byte) → (shape : ℕ) → (radius : Byte) → Dab
-  stepBack : Dab
+pub data KeptCall : Type 0 where
+  keptPut : (x y value : ℕ) → (opacity : Byte) → (shape : ℕ) → (radius : Byte) → KeptCall
+  keptUndo : KeptCall
 
 -- a plate, and what is kept of it
 pub record Painting : Type 0 where
   pub plate : Plate
-  pub kept : Canvas
+  pub canvas : Canvas
 
 abbrev pub paintedBy : Refreshed → Painting
-paintedBy r = record { plate = leftBy (r .call); kept = r .canvas }
+paintedBy r = record { plate = leftBy (r .call); canvas = r .canvas }
 
 -- each call is given what the call before left
-unfoldable pub paint : Painting → Dab → Painting
-paint p (dab x y v a s r) =
-    paintedBy (putKeptCall (p .plate .state) (ask x y v (a .code) s (r .code)) (p .plate .kept) (p .kept))
-paint p stepBack = paintedBy (undoKeptCall (p .plate .state) (p .plate .kept) (p .kept))
+unfoldable pub paint : Painting → KeptCall → Painting
+paint p (keptPut x y v a s r) =
+    paintedBy (putKeptCall (p .plate .state) (ask x y v (a .code) s (r .code)) (p .plate .buffers) (p .canvas))
+paint p keptUndo = paintedBy (undoKeptCall (p .plate .state) (p .plate .buffers) (p .canvas))
 
-unfoldable pub paintAll : Painting → List Dab → Painting
+unfoldable pub paintAll : Painting → List KeptCall → Painting
 paintAll p [] = p
 paintAll p (d ∷ ds) = paintAll (paint p d) ds
 
@@ -56,7 +56,7 @@ abbrev pub shownCanvas : ShownKept → Canvas
 shownCanvas s = canvas (s .sums) (s .call .seen .values) (s .call .seen .mattes)
 
 abbrev pub shownPainting : Plate → ShownKept → Painting
-shownPainting p s = record { plate = record { state = s .call .answer .state; kept = p .kept }; kept = shownCanvas s }
+shownPainting p s = record { plate = record { state = s .call .answer .state; buffers = p .buffers }; canvas = shownCanvas s }
 
 -- a show that is lent as much as another
 pub record AsMuch (v v' : Views) (sums sums' : List ℕ) : Type 0 where
@@ -70,26 +70,26 @@ pub record AsMuch (v v' : Views) (sums sums' : List ℕ) : Type 0 where
 -- is accepted, and writes just that
 abbrev pub PaintsFresh : Type 0
 PaintsFresh =
-    (p : Plate) (v : Views) (sums : List ℕ) (dabs : List Dab) →
-    let first = showKeptCall (p .state) (p .kept .planes) v sums in
-    let end = paintAll (shownPainting p first) dabs in
+    (p : Plate) (v : Views) (sums : List ℕ) (changes : List KeptCall) →
+    let first = showKeptCall (p .state) (p .buffers .planes) v sums in
+    let end = paintAll (shownPainting p first) changes in
     first .call .answer .outcome ≡ Accepted
     → (v' : Views) (sums' : List ℕ) → AsMuch v v' sums sums' →
-    let again = showKeptCall (end .plate .state) (end .plate .kept .planes) v' sums' in
-    (again .call .answer .outcome ≡ Accepted) × (end .kept ≡ shownCanvas again)
+    let again = showKeptCall (end .plate .state) (end .plate .buffers .planes) v' sums' in
+    (again .call .answer .outcome ≡ Accepted) × (end .canvas ≡ shownCanvas again)
 
 -- the same calls in their first form
-abbrev pub firstForm : Dab → Call
-firstForm (dab x y v a s r) = putIt x y v a s r
-firstForm stepBack = undoIt
+abbrev pub firstForm : KeptCall → Call
+firstForm (keptPut x y v a s r) = putIt x y v a s r
+firstForm keptUndo = undoIt
 
--- so on a plate after any list of calls the kept pictures are plain spreading of the notebook's grid after the list and the dabs
+-- so on a plate after any list of calls the kept pictures are plain spreading of the notebook's grid after the list and the changes
 abbrev pub PaintsPlain : Type 0
 PaintsPlain =
-    (z : Size) (l : Lent) (calls : List Call) (v : Views) (sums : List ℕ) (dabs : List Dab) → openCheck z (sizedAs l) ≡ Accepted →
+    (z : Size) (l : Lent) (calls : List Call) (v : Views) (sums : List ℕ) (changes : List KeptCall) → openCheck z (lengthsOf l) ≡ Accepted →
     let p = plateAfter (leftBy (openCall z l)) calls in
-    let first = showKeptCall (p .state) (p .kept .planes) v sums in
-    let end = paintAll (shownPainting p first) dabs in
-    let grid = bookAfter (openBook z (length (l .log))) (calls ++ map firstForm dabs) .grid in
+    let first = showKeptCall (p .state) (p .buffers .planes) v sums in
+    let end = paintAll (shownPainting p first) changes in
+    let grid = bookAfter (openBook z (length (l .log))) (calls ++ map firstForm changes) .grid in
     first .call .answer .outcome ≡ Accepted
-    → (end .kept .values ≡ plainValues z grid) × (end .kept .mattes ≡ plainMattes z grid)
+    → (end .canvas .values ≡ plainValues z grid) × (end .canvas .mattes ≡ plainMattes z grid)

@@ -4,7 +4,7 @@ use Prim.Native.Nat.{ℕ, _+_, _*_, _-_, _^_, _≤_, _<_}
 use lib.ListN.{getD, length}
 use Rattle.plate_model.specs.Fixed.{planesInAll, wordBits}
 use Rattle.plate_model.specs.Layout.{Size, padded}
-use Rattle.plate_model.specs.Lent.{State, Ask, Lent, sizedAs}
+use Rattle.plate_model.specs.Lent.{State, Ask, Lent, lengthsOf}
 use Rattle.plate_model.specs.Word.{Fits}
 use Rattle.plate_model.specs.Change.{Change, ToChange, putRead, undoRead}
 use Rattle.plate_model.specs.Table.{LawfulSize}
@@ -32,7 +32,7 @@ pub record PutReady (s : State) (c : Change) (l : Lent) : Type 0 where
 abbrev pub PutReads : Type 0
 PutReads =
     (s : State) (a : Ask) (l : Lent) → a .opacity < 256 → (c : Change)
-    → putRead s a (sizedAs l) (l .pixels) ≡ ToChange c → PutReady s c l
+    → putRead s a (lengthsOf l) (l .pixels) ≡ ToChange c → PutReady s c l
 
 -- UNDO
 -- the place has a word, and the log an entry
@@ -45,4 +45,4 @@ pub record UndoReady (s : State) (c : Change) (l : Lent) : Type 0 where
 -- so it is of every change that an undo reads
 abbrev pub UndoReads : Type 0
 UndoReads =
-    (s : State) (l : Lent) (c : Change) → undoRead s (sizedAs l) (l .pixels) (l .log) ≡ ToChange c → UndoReady s c l
+    (s : State) (l : Lent) (c : Change) → undoRead s (lengthsOf l) (l .pixels) (l .log) ≡ ToChange c → UndoReady s c l

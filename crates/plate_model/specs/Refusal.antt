@@ -9,15 +9,15 @@ use Rattle.kernels_model.specs.Choice.{pick}
 use Rattle.kernels_model.specs.declared.shape.ShapeRead.{ShapeRead}
 use Rattle.kernels_model.specs.declared.shape.ShapeRead.the-variants.{Known, Unknown}
 use Rattle.kernels_model.specs.Shape.{shapeOf, topUnder}
-use Rattle.kernels_model.specs.declared.lens.Lens.{Lens as LensOf}
+use Rattle.kernels_model.specs.declared.lens.Lens.{Lens}
 use Rattle.kernels_model.specs.Lens.{lawfulLens}
 use Rattle.kernels_model.specs.Fixed.{valueTop, depthTop, shapeRefused, lensRefused, depthRefused}
 use Rattle.plate_model.specs.Fixed.{planesInAll, scratchPlanes, sideTop, placesTop, reachTop, logTop}
 use Rattle.plate_model.specs.Layout.{Size, padded, places, sumsInAll}
-use Rattle.plate_model.specs.Lent.{State, Sized, Ask, Inputs}
+use Rattle.plate_model.specs.Lent.{State, LentLengths, Ask, Inputs}
 pub use Rattle.plate_model.specs.declared.state.Answer.{Answer}
 pub use Rattle.plate_model.specs.declared.state.Refusal.{Refusal}
-pub use Rattle.plate_model.specs.declared.state.Refusal.the-variants.{Sizes, Lengths, LogCount, Place, Value, Shape, Radius, LogFull, LogEmpty, StoredWord, Lens, Depth, DepthInside}
+pub use Rattle.plate_model.specs.declared.state.Refusal.the-variants.{Sizes, Lengths, LogCount, Place, Value, UnknownShape, LargeRadius, LogFull, LogEmpty, StoredWord, UnlawfulLens, Depth, DepthInside}
 pub use Rattle.plate_model.specs.declared.state.Outcome.{Outcome}
 pub use Rattle.plate_model.specs.declared.state.Outcome.the-variants.{Accepted, Refused}
 
@@ -29,12 +29,12 @@ refusalNumber Lengths = 2
 refusalNumber LogCount = 3
 refusalNumber Place = 4
 refusalNumber Value = 5
-refusalNumber Shape = shapeRefused
-refusalNumber Radius = 7
+refusalNumber UnknownShape = shapeRefused
+refusalNumber LargeRadius = 7
 refusalNumber LogFull = 8
 refusalNumber LogEmpty = 9
 refusalNumber StoredWord = 10
-refusalNumber Lens = lensRefused
+refusalNumber UnlawfulLens = lensRefused
 refusalNumber Depth = depthRefused
 refusalNumber DepthInside = 17
 
@@ -64,7 +64,7 @@ abbrev pub lengthCheck : ℕ → ℕ → Outcome → Outcome
 lengthCheck n want next = refuseIf (not (eqb n want)) Lengths next
 
 -- "planes 14 × P, pixels W × H words .., log 0 to 65,535 entries"
-unfoldable pub lentCheck : Size → Sized → Outcome → Outcome
+unfoldable pub lentCheck : Size → LentLengths → Outcome → Outcome
 lentCheck z n next =
     lengthCheck (n .planes) (planesInAll * padded z)
     (lengthCheck (n .pixels) (places z) (refuseIf (ltb logTop (n .log)) Lengths next))
@@ -83,13 +83,13 @@ valueCheck v next = refuseIf (ltb valueTop v) Value next
 
 -- 6: "shape above 5"
 unfoldable pub shapeCheck : ShapeRead → Outcome → Outcome
-shapeCheck Unknown next = Refused Shape
+shapeCheck Unknown next = Refused UnknownShape
 shapeCheck (Known s) next = next
 
 -- 7: "r above top under R", of a shape that is read
 unfoldable pub radiusCheck : ℕ → ShapeRead → ℕ → Outcome → Outcome
 radiusCheck R Unknown r next = next
-radiusCheck R (Known s) r next = refuseIf (ltb (topUnder s R) r) Radius next
+radiusCheck R (Known s) r next = refuseIf (ltb (topUnder s R) r) LargeRadius next
 
 -- 8: "put: count equals log length"
 abbrev pub fullCheck : ℕ → ℕ → Outcome → Outcome
@@ -113,15 +113,15 @@ unfoldable pub isBetween : ℕ → ℕ → ℕ → Bool
 isBetween low top n = pick (leb n low) false (leb n top)
 
 -- 11: "D, f, S or p outside"
-abbrev pub lensCheck : LensOf → Outcome → Outcome
-lensCheck l next = refuseIf (not (lawfulLens l)) Lens next
+abbrev pub lensCheck : Lens → Outcome → Outcome
+lensCheck l next = refuseIf (not (lawfulLens l)) UnlawfulLens next
 
 -- 12: "a depth above 10,000,000"
 abbrev pub depthsCheck : List ℕ → Outcome → Outcome
 depthsCheck depths next = refuseIf (anyAbove depthTop depths) Depth next
 
 -- 17: "a non-zero depth at most f"
-abbrev pub insideCheck : LensOf → List ℕ → Outcome → Outcome
+abbrev pub insideCheck : Lens → List ℕ → Outcome → Outcome
 insideCheck l depths next = refuseIf (anyOf (isBetween 0 (l .focal)) depths) DepthInside next
 
 -- THE CHECKS OF EACH CALL, but for 10, which reads stored words
@@ -139,7 +139,7 @@ inputsCheck z values opacities depths next =
     lengthCheck values (places z) (lengthCheck opacities (places z) (lengthCheck depths (places z) next))
 
 -- 5, 6, 11, 12 and 17
-unfoldable pub layerCheck : LensOf → ℕ → Inputs → Outcome
+unfoldable pub layerCheck : Lens → ℕ → Inputs → Outcome
 layerCheck l s f =
     refuseIf (anyAbove valueTop (f .values)) Value
     (shapeCheck (shapeOf s) (lensCheck l (depthsCheck (f .depths) (insideCheck l (f .depths) Accepted))))
@@ -159,30 +159,30 @@ canvasCheck z sums values mattes =
     sumsCheck z sums (lengthCheck values (places z) (lengthCheck mattes (places z) Accepted))
 
 -- open: 1 2
-unfoldable pub openCheck : Size → Sized → Outcome
+unfoldable pub openCheck : Size → LentLengths → Outcome
 openCheck z n = sizesCheck z (lentCheck z n Accepted)
 
 -- 1 2 3, first of put and undo
-unfoldable pub plateCheck : State → Sized → Outcome → Outcome
+unfoldable pub plateCheck : State → LentLengths → Outcome → Outcome
 plateCheck s n next = sizesCheck (s .size) (lentCheck (s .size) n (countCheck (s .count) (n .log) next))
 
 -- put: 1 2 3 4 5 6 7 8
-unfoldable pub putCheck : State → Ask → Sized → Outcome
+unfoldable pub putCheck : State → Ask → LentLengths → Outcome
 putCheck s a n = plateCheck s n (askCheck (s .size) (s .count) (n .log) a)
 
 -- undo: 1 2 3 9
-unfoldable pub undoCheck : State → Sized → Outcome
+unfoldable pub undoCheck : State → LentLengths → Outcome
 undoCheck s n = plateCheck s n (emptyCheck (s .count) Accepted)
 
 -- fill: 1 2 3, and what its inputs hold: 5 6 11 12 17
-unfoldable pub fillFirst : State → Inputs → Sized → Outcome → Outcome
+unfoldable pub fillFirst : State → Inputs → LentLengths → Outcome → Outcome
 fillFirst s f n next =
     sizesCheck (s .size)
     (lentCheck (s .size) n
     (inputsCheck (s .size) (length (f .values)) (length (f .opacities)) (length (f .depths))
     (countCheck (s .count) (n .log) next)))
 
-unfoldable pub fillCheck : State → LensOf → ℕ → Inputs → Sized → Outcome
+unfoldable pub fillCheck : State → Lens → ℕ → Inputs → LentLengths → Outcome
 fillCheck s o k f n = fillFirst s f n (layerCheck o k f)
 
 -- total: 1 2

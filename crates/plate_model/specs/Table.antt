@@ -6,24 +6,24 @@ use mathlib.Core.List.{List, [], _∷_, map}
 use Prim.Native.Nat.{ℕ, _*_, _-_, _/_, _%_, _^_, _≤_, _<_}
 use lib.ListN.{getD, length}
 use Rattle.kernels_model.specs.Fixed.{shapeCount, valueTop, depthTop}
-use Rattle.kernels_model.specs.Rows.{Row, row, FirstOf}
+use Rattle.kernels_model.specs.Rows.{TableRow, row, FirstOf}
 use Rattle.kernels_model.specs.declared.shape.ShapeRead.{ShapeRead}
 use Rattle.kernels_model.specs.declared.shape.ShapeRead.the-variants.{Known, Unknown}
 use Rattle.kernels_model.specs.Shape.{shapeOf, topUnder}
-use Rattle.kernels_model.specs.declared.lens.Lens.{Lens as LensOf}
+use Rattle.kernels_model.specs.declared.lens.Lens.{Lens}
 use Rattle.kernels_model.specs.Lens.{openingTop, focalTop, focusTop, pitchTop}
 use Rattle.plate_model.specs.Fixed.{planesInAll, scratchPlanes, sideTop, placesTop, reachTop, logTop, wordBits}
 use Rattle.plate_model.specs.Layout.{Size, sizeFrom, padded, places, sumsInAll}
-use Rattle.plate_model.specs.Lent.{State, stateOf, Lent, Sized, sizedAs, Ask, Inputs, Views, Canvas}
+use Rattle.plate_model.specs.Lent.{State, stateOf, Lent, LentLengths, lengthsOf, Ask, Inputs, Views, Canvas}
 use Rattle.plate_model.specs.Word.{shapeIn, radiusIn}
-use Rattle.plate_model.specs.Refusal.{Refusal, Sizes, Lengths, LogCount, Place, Value, Shape, Radius, LogFull, LogEmpty, StoredWord, Lens, Depth, DepthInside, Outcome, Accepted, Refused, refusalNumber, openCheck}
+use Rattle.plate_model.specs.Refusal.{Refusal, Sizes, Lengths, LogCount, Place, Value, UnknownShape, LargeRadius, LogFull, LogEmpty, StoredWord, UnlawfulLens, Depth, DepthInside, Outcome, Accepted, Refused, refusalNumber, openCheck}
 use Rattle.plate_model.specs.Change.{askedPlace}
 use Rattle.plate_model.specs.Calls.{Left, refused, Shown, shows, answerOf, openCall, putCall, undoCall, fillCall, showCall}
 use Rattle.plate_model.specs.Kept.{Refreshed, leavesKept, putKeptCall, undoKeptCall, ShownKept, showsKept, showKeptCall}
 use Rattle.plate_model.specs.Total.{Totalled, totalled, noTotals, totalCall}
 
 -- an answer by rows: the refusal of the first that applies, and accepted where none does
-abbrev pub AnswersBy : List (Row Refusal) → Outcome → Type 0
+abbrev pub AnswersBy : List (TableRow Refusal) → Outcome → Type 0
 AnswersBy rows o = FirstOf (λ f. o ≡ Refused f) (o ≡ Accepted) rows
 
 -- WHEN EACH IS GIVEN
@@ -41,13 +41,13 @@ abbrev pub SizesOutside : Size → Type 0
 SizesOutside z = ¬ (LawfulSize z)
 
 -- "planes 14 × P, pixels W × H words .., log 0 to 65,535 entries"
-pub record LentFor (z : Size) (n : Sized) : Type 0 where
+pub record LentFor (z : Size) (n : LentLengths) : Type 0 where
   pub planes-are : n .planes ≡ planesInAll * padded z
   pub pixels-are : n .pixels ≡ places z
   pub log-top : n .log ≤ logTop
 
 -- 2: "a lent length is wrong, a log above 65,535 too"
-abbrev pub LentWrong : Size → Sized → Type 0
+abbrev pub LentWrong : Size → LentLengths → Type 0
 LentWrong z n = ¬ (LentFor z n)
 
 -- "fill's three inputs W × H each"
@@ -126,7 +126,7 @@ Outside low top n = (n < low) ⊎ (top < n)
 
 -- 11: "D, f, S or p outside", that is of "opening D and focal length f (1 to 4,000), focus S (above f, at most 10,000,000), ..
 -- pitch p 1 to 1,000"
-unfoldable pub LensOutside : LensOf → Type 0
+unfoldable pub LensOutside : Lens → Type 0
 LensOutside l =
     Outside 1 openingTop (l .opening)
     ⊎ Outside 1 focalTop (l .focal)
@@ -139,15 +139,15 @@ abbrev pub DepthAbove : ℕ → Type 0
 DepthAbove d = depthTop < d
 
 -- 17: "a non-zero depth at most f"
-abbrev pub InsideLens : LensOf → ℕ → Type 0
+abbrev pub InsideLens : Lens → ℕ → Type 0
 InsideLens l d = (d ≢ 0) × (d ≤ l .focal)
 
 -- THE ROWS OF EACH CALL: "a call checks only what it is lent"
-abbrev pub openRows : Size → Lent → List (Row Refusal)
-openRows z l = row Sizes (SizesOutside z) ∷ row Lengths (LentWrong z (sizedAs l)) ∷ []
+abbrev pub openRows : Size → Lent → List (TableRow Refusal)
+openRows z l = row Sizes (SizesOutside z) ∷ row Lengths (LentWrong z (lengthsOf l)) ∷ []
 
 -- a put, by when a length that it is lent is wrong; "For 10, put reads the word at its place"
-abbrev pub putRowsBy : Type 0 → State → Ask → Lent → List (Row Refusal)
+abbrev pub putRowsBy : Type 0 → State → Ask → Lent → List (TableRow Refusal)
 putRowsBy wrong s a l =
     let z = s .size in
     row Sizes (SizesOutside z)
@@ -155,21 +155,21 @@ putRowsBy wrong s a l =
     ∷ row LogCount (CountAbove s l)
     ∷ row Place (PlaceOutside z (a .x) (a .y))
     ∷ row Value (ValueAbove (a .value))
-    ∷ row Shape (ShapeAbove (a .shape))
-    ∷ row Radius (RadiusAbove (z .reach) (shapeOf (a .shape)) (a .radius))
+    ∷ row UnknownShape (ShapeAbove (a .shape))
+    ∷ row LargeRadius (RadiusAbove (z .reach) (shapeOf (a .shape)) (a .radius))
     ∷ row LogFull (CountFull s l)
     ∷ row StoredWord (WordBroken (z .reach) (getD (l .pixels) (askedPlace z a) 0))
     ∷ []
 
-abbrev pub putRows : State → Ask → Lent → List (Row Refusal)
-putRows s a l = putRowsBy (LentWrong (s .size) (sizedAs l)) s a l
+abbrev pub putRows : State → Ask → Lent → List (TableRow Refusal)
+putRows s a l = putRowsBy (LentWrong (s .size) (lengthsOf l)) s a l
 
 -- the second form: "2 can come from this buffer too"
-abbrev pub putKeptRows : State → Ask → Lent → Canvas → List (Row Refusal)
-putKeptRows s a l k = putRowsBy (LentWrong (s .size) (sizedAs l) ⊎ CanvasWrong (s .size) k) s a l
+abbrev pub putKeptRows : State → Ask → Lent → Canvas → List (TableRow Refusal)
+putKeptRows s a l k = putRowsBy (LentWrong (s .size) (lengthsOf l) ⊎ CanvasWrong (s .size) k) s a l
 
 -- an undo so; "For 10, .. undo the last entry and the word at that entry's place"
-abbrev pub undoRowsBy : Type 0 → State → Lent → List (Row Refusal)
+abbrev pub undoRowsBy : Type 0 → State → Lent → List (TableRow Refusal)
 undoRowsBy wrong s l =
     let z = s .size in
     let entry = getD (l .log) (s .count - 1) 0 in
@@ -180,44 +180,44 @@ undoRowsBy wrong s l =
     ∷ row StoredWord (EntryBroken z entry ⊎ WordBroken (z .reach) (getD (l .pixels) (placeIn entry) 0))
     ∷ []
 
-abbrev pub undoRows : State → Lent → List (Row Refusal)
-undoRows s l = undoRowsBy (LentWrong (s .size) (sizedAs l)) s l
+abbrev pub undoRows : State → Lent → List (TableRow Refusal)
+undoRows s l = undoRowsBy (LentWrong (s .size) (lengthsOf l)) s l
 
-abbrev pub undoKeptRows : State → Lent → Canvas → List (Row Refusal)
-undoKeptRows s l k = undoRowsBy (LentWrong (s .size) (sizedAs l) ⊎ CanvasWrong (s .size) k) s l
+abbrev pub undoKeptRows : State → Lent → Canvas → List (TableRow Refusal)
+undoKeptRows s l k = undoRowsBy (LentWrong (s .size) (lengthsOf l) ⊎ CanvasWrong (s .size) k) s l
 
-abbrev pub fillRows : State → LensOf → ℕ → Inputs → Lent → List (Row Refusal)
+abbrev pub fillRows : State → Lens → ℕ → Inputs → Lent → List (TableRow Refusal)
 fillRows s o shape f l =
     let z = s .size in
     row Sizes (SizesOutside z)
-    ∷ row Lengths (LentWrong z (sizedAs l) ⊎ InputsWrong z f)
+    ∷ row Lengths (LentWrong z (lengthsOf l) ⊎ InputsWrong z f)
     ∷ row LogCount (CountAbove s l)
     ∷ row Value (SomeOf ValueAbove (f .values))
-    ∷ row Shape (ShapeAbove shape)
-    ∷ row Lens (LensOutside o)
+    ∷ row UnknownShape (ShapeAbove shape)
+    ∷ row UnlawfulLens (LensOutside o)
     ∷ row Depth (SomeOf DepthAbove (f .depths))
     ∷ row DepthInside (SomeOf (InsideLens o) (f .depths))
     ∷ []
 
-abbrev pub showRows : State → List ℕ → Views → List (Row Refusal)
+abbrev pub showRows : State → List ℕ → Views → List (TableRow Refusal)
 showRows s planes v = row Sizes (SizesOutside (s .size)) ∷ row Lengths (ViewsWrong (s .size) planes v) ∷ []
 
-abbrev pub showKeptRows : State → List ℕ → Views → List ℕ → List (Row Refusal)
+abbrev pub showKeptRows : State → List ℕ → Views → List ℕ → List (TableRow Refusal)
 showKeptRows s planes v sums =
     row Sizes (SizesOutside (s .size)) ∷ row Lengths (ViewsWrong (s .size) planes v ⊎ SumsWrong (s .size) sums) ∷ []
 
-abbrev pub totalRows : State → List ℕ → List ℕ → List (Row Refusal)
+abbrev pub totalRows : State → List ℕ → List ℕ → List (TableRow Refusal)
 totalRows s planes scratch = row Sizes (SizesOutside (s .size)) ∷ row Lengths (TotalWrong (s .size) planes scratch) ∷ []
 
 -- the paper's numbers of them: each list ascends, so that the first row that applies is "the lowest number that applies"
-abbrev pub numbersOf : List (Row Refusal) → List ℕ
-numbersOf rows = map (λ (r : Row Refusal). refusalNumber (r .refusal)) rows
+abbrev pub numbersOf : List (TableRow Refusal) → List ℕ
+numbersOf rows = map (λ (r : TableRow Refusal). refusalNumber (r .refusal)) rows
 
 pub record Orders : Type 0 where
   pub of-open : (z : Size) (l : Lent) → numbersOf (openRows z l) ≡ 1 ∷ 2 ∷ []
   pub of-put : (s : State) (a : Ask) (l : Lent) → numbersOf (putRows s a l) ≡ 1 ∷ 2 ∷ 3 ∷ 4 ∷ 5 ∷ 6 ∷ 7 ∷ 8 ∷ 10 ∷ []
   pub of-undo : (s : State) (l : Lent) → numbersOf (undoRows s l) ≡ 1 ∷ 2 ∷ 3 ∷ 9 ∷ 10 ∷ []
-  pub of-fill : (s : State) (o : LensOf) (shape : ℕ) (f : Inputs) (l : Lent)
+  pub of-fill : (s : State) (o : Lens) (shape : ℕ) (f : Inputs) (l : Lent)
       → numbersOf (fillRows s o shape f l) ≡ 1 ∷ 2 ∷ 3 ∷ 5 ∷ 6 ∷ 11 ∷ 12 ∷ 17 ∷ []
   pub of-show : (s : State) (planes : List ℕ) (v : Views) → numbersOf (showRows s planes v) ≡ 1 ∷ 2 ∷ []
   pub of-total : (s : State) (planes scratch : List ℕ) → numbersOf (totalRows s planes scratch) ≡ 1 ∷ 2 ∷ []
@@ -231,27 +231,27 @@ pub record Orders : Type 0 where
 -- DEMAND 1
 -- a call that goes by its rows: its answer is theirs, and "after a refusal every lent buffer is as before", the mark count 0 and
 -- the state that is handed back. What a call leaves differs from call to call.
-pub record CallBy {A : Type 0} (rows : List (Row Refusal)) (outcomeIn : A → Outcome) (refusedAs : Refusal → A) (call : A) : Type 0 where
+pub record CallBy {A : Type 0} (rows : List (TableRow Refusal)) (outcomeIn : A → Outcome) (refusedAs : Refusal → A) (call : A) : Type 0 where
   pub first : AnswersBy rows (outcomeIn call)
   pub untouched : (f : Refusal) → outcomeIn call ≡ Refused f → call ≡ refusedAs f
 
-abbrev pub GoesBy : List (Row Refusal) → State → Lent → Left → Type 0
+abbrev pub GoesBy : List (TableRow Refusal) → State → Lent → Left → Type 0
 GoesBy rows s l call = CallBy rows (λ (c : Left). c .answer .outcome) (λ f. refused f s l) call
 
-abbrev pub ShowGoesBy : List (Row Refusal) → State → Views → Shown → Type 0
+abbrev pub ShowGoesBy : List (TableRow Refusal) → State → Views → Shown → Type 0
 ShowGoesBy rows s v call = CallBy rows (λ (c : Shown). c .answer .outcome) (λ f. shows (answerOf (Refused f) 0 s) v) call
 
 -- the second forms
-abbrev pub KeptGoesBy : List (Row Refusal) → State → Lent → Canvas → Refreshed → Type 0
+abbrev pub KeptGoesBy : List (TableRow Refusal) → State → Lent → Canvas → Refreshed → Type 0
 KeptGoesBy rows s l k call =
     CallBy rows (λ (c : Refreshed). c .call .answer .outcome) (λ f. leavesKept (answerOf (Refused f) 0 s) l k) call
 
-abbrev pub ShowKeptGoesBy : List (Row Refusal) → State → Views → List ℕ → ShownKept → Type 0
+abbrev pub ShowKeptGoesBy : List (TableRow Refusal) → State → Views → List ℕ → ShownKept → Type 0
 ShowKeptGoesBy rows s v sums call =
     CallBy rows (λ (c : ShownKept). c .call .answer .outcome) (λ f. showsKept (answerOf (Refused f) 0 s) v sums) call
 
 -- a total, whose sums are then 0
-abbrev pub TotalGoesBy : List (Row Refusal) → State → List ℕ → Totalled → Type 0
+abbrev pub TotalGoesBy : List (TableRow Refusal) → State → List ℕ → Totalled → Type 0
 TotalGoesBy rows s scratch call =
     CallBy rows (λ (c : Totalled). c .totals .answer .outcome) (λ f. totalled (noTotals (answerOf (Refused f) 0 s)) scratch) call
 
@@ -261,7 +261,7 @@ pub record Demand1 : Type 0 where
   pub open-by : (z : Size) (l : Lent) → GoesBy (openRows z l) (stateOf (sizeFrom 0 0 0) 0) l (openCall z l)
   pub put-by : (s : State) (a : Ask) (l : Lent) → GoesBy (putRows s a l) s l (putCall s a l)
   pub undo-by : (s : State) (l : Lent) → GoesBy (undoRows s l) s l (undoCall s l)
-  pub fill-by : (s : State) (o : LensOf) (shape : ℕ) (f : Inputs) (l : Lent)
+  pub fill-by : (s : State) (o : Lens) (shape : ℕ) (f : Inputs) (l : Lent)
       → GoesBy (fillRows s o shape f l) s l (fillCall s o shape f l)
   pub show-by : (s : State) (planes : List ℕ) (v : Views) → ShowGoesBy (showRows s planes v) s v (showCall s planes v)
   pub put-kept-by : (s : State) (a : Ask) (l : Lent) (k : Canvas) → KeptGoesBy (putKeptRows s a l k) s l k (putKeptCall s a l k)
@@ -274,4 +274,4 @@ pub record Demand1 : Type 0 where
 -- PLATES THERE ARE
 -- every open with lawful sizes and right lengths is accepted, so that demands 2 and 3 speak of every plate
 abbrev pub OpenAccepts : Type 0
-OpenAccepts = (z : Size) (l : Lent) → LawfulSize z → LentFor z (sizedAs l) → openCheck z (sizedAs l) ≡ Accepted
+OpenAccepts = (z : Size) (l : Lent) → LawfulSize z → LentFor z (lengthsOf l) → openCheck z (lengthsOf l) ≡ Accepted

@@ -11,7 +11,7 @@ pub struct Ask {
 }
 
 // The lengths of planes, pixels and log.
-pub struct Sized {
+pub struct LentLengths {
     pub planes: usize,
     pub pixels: usize,
     pub log: usize,

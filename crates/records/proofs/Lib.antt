@@ -1,4 +1,1 @@
-pub mod writing
-pub mod reading
-pub mod answering
-pub mod lending
+pub mod laws

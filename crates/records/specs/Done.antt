@@ -45,7 +45,7 @@ pub record Says (w : Said) (d : Done) (out after : List ℕ) : Type 0 where
 
 -- a request served, and what its answer says
 pub record Served (says : Answer → Said) (q : Request) (l kept : Lent) (d : Done) (out after : List ℕ) : Type 0 where
-  pub kept-is : kept ≡ requested q l .kept
+  pub kept-is : kept ≡ requested q l .buffers
   pub told : Says (says (requested q l .answer)) d out after
 
 -- a show, on just the parts that a plate wants

@@ -122,7 +122,7 @@ requestCall (ToUndo s) l = undoCall s l
 unfoldable pub requested : Request → Lent → Left
 requested q l =
     let r = requestCall q (frontOf (requestSize q) l) in
-    record { answer = r .answer; kept = frontBack (requestSize q) (r .kept) l }
+    record { answer = r .answer; buffers = frontBack (requestSize q) (r .buffers) l }
 
 -- RECORDS
 -- where a run stands after record K, and the record's text
@@ -157,7 +157,7 @@ answeredBy k a = said (Opened (a .state)) (answerText k (outcomeNumber (a .outco
 
 -- a request, and what its answer says
 abbrev pub serving : (Answer → Said) → Request → Buffers → Did
-serving says q b = let l = requested q (plateOf b) in did (says (l .answer)) (holding b (l .kept))
+serving says q b = let l = requested q (plateOf b) in did (says (l .answer)) (holding b (l .buffers))
 
 -- a show
 unfoldable pub shownText : ℕ → ℕ → ℕ → Outcome → List ℕ → List ℕ → List ℕ

@@ -8,7 +8,7 @@ use Rattle.plate_model.specs.declared.size.Size.{Size}
 use Rattle.plate_model.specs.declared.state.Outcome.{Outcome}
 use Rattle.plate_model.specs.declared.state.Outcome.the-variants.{Accepted, Refused}
 use Rattle.plate_model.specs.Refusal.{sizesCheck}
-use Rattle.plate_model.specs.Notebook.{Book, openBook, Pictures, none, both, Report, Turn, bookPut, bookUndo, bookShowBy}
+use Rattle.plate_model.specs.Notebook.{Book, openBook, Pictures, none, both, Report, BookLeft, bookPut, bookUndo, bookShowBy}
 use Rattle.records_model.specs.Fixed.{cellsTop, logRoom}
 use Rattle.records_model.specs.Text.{stoppedWord, refusedWord, numbered, doneLine, showText}
 use Rattle.records_model.specs.Record.{Record, Open, Put, NoShape, Undo, Show, Stop, Sizes, Order, Cells, stopNumber, strokeAsk, shapelessAsk, Items, over, broken, next, itemsOf}
@@ -47,7 +47,7 @@ pictureText z (both values mattes) = showText (z .width) (z .height) values matt
 unfoldable pub reportText : ℕ → Size → Report → List ℕ
 reportText k z r = answerText k (r .number) ++ pictureText z (r .pictures)
 
-abbrev pub noted : ℕ → Book → Turn → Act
+abbrev pub noted : ℕ → Book → BookLeft → Act
 noted k b t = go (reportText k (b .size) (t .report)) (t .book)
 
 -- record K on a desk

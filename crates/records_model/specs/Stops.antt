@@ -4,7 +4,7 @@ use mathlib.Core.Logic.{_≢_, _⊎_}
 use mathlib.Core.List.{List, [], _∷_, _++_}
 use Prim.Native.Nat.{ℕ, suc, _+_, _<_}
 use lib.ListN.{getD, length, take, drop}
-use Rattle.kernels_model.specs.Rows.{Row, row, FirstOf}
+use Rattle.kernels_model.specs.Rows.{TableRow, row, FirstOf}
 use Rattle.plate_model.specs.declared.size.Size.{Size}
 use Rattle.plate_model.specs.Layout.{sizeFrom, padded}
 use Rattle.plate_model.specs.Table.{Outside, SizesOutside}
@@ -31,7 +31,7 @@ abbrev pub openSize : List ℕ → Size
 openSize body = sizeFrom (pair body 0) (pair body 2) (getD body 4 0)
 
 -- "Checks: 13, 14, 15, then 1, 16": a byte of kind, and what follows it, on a desk. 16: "P above 512"
-abbrev pub recordRows : Desk → ℕ → List ℕ → List (Row Stop)
+abbrev pub recordRows : Desk → ℕ → List ℕ → List (TableRow Stop)
 recordRows d kind rest =
     row Kind (KindUnknown kind)
     ∷ row Body (BodyShort kind rest)

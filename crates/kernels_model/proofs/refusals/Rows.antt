@@ -2,22 +2,22 @@
 -- with further rows where these accept.
 use mathlib.Core.Logic.{inl, inr}
 use mathlib.Core.List.{List, [], _∷_, _++_}
-use Rattle.kernels_model.specs.Rows.{Row, FirstOf}
+use Rattle.kernels_model.specs.Rows.{TableRow, FirstOf}
 
 -- none of them applies
-unfoldable pub NoneOf : {F : Type 0} → List (Row F) → Type 0
+unfoldable pub NoneOf : {F : Type 0} → List (TableRow F) → Type 0
 NoneOf [] = Unit {0}
 NoneOf (r ∷ rows) = (¬ (r .given)) × NoneOf rows
 
 module _ {F : Type 0} (says : F → Type 0) (accepted : Type 0) where
   -- accepted exactly where none applies
-  pub none-accepted : (rows : List (Row F)) → FirstOf says accepted rows → NoneOf rows → accepted
+  pub none-accepted : (rows : List (TableRow F)) → FirstOf says accepted rows → NoneOf rows → accepted
   unfolding FirstOf NoneOf
   none-accepted [] a none = a
   none-accepted (r ∷ rows) (inl p) none = absurd (none .0 (p .0))
   none-accepted (r ∷ rows) (inr p) none = none-accepted rows (p .1) (none .1)
 
-  pub accepted-none : (rows : List (Row F)) → ((f : F) → says f → accepted → ⊥) → FirstOf says accepted rows → accepted
+  pub accepted-none : (rows : List (TableRow F)) → ((f : F) → says f → accepted → ⊥) → FirstOf says accepted rows → accepted
       → NoneOf rows
   unfolding FirstOf NoneOf
   accepted-none [] apart p a = tt
@@ -26,7 +26,7 @@ module _ {F : Type 0} (says : F → Type 0) (accepted : Type 0) where
 
   module _ (tells : F → Type 0) (taken : Type 0) where
     -- two that go by the same rows say the same
-    pub same-answer : {P : Type 0} (rows : List (Row F)) → ((f : F) → says f → tells f → P) → (accepted → taken → P)
+    pub same-answer : {P : Type 0} (rows : List (TableRow F)) → ((f : F) → says f → tells f → P) → (accepted → taken → P)
         → FirstOf says accepted rows → FirstOf tells taken rows → P
     unfolding FirstOf
     same-answer [] refused both p q = both p q
@@ -36,7 +36,7 @@ module _ {F : Type 0} (says : F → Type 0) (accepted : Type 0) where
     same-answer (r ∷ rows) refused both (inr p) (inr q) = same-answer rows refused both (p .1) (q .1)
 
     -- further rows, checked where the first ones accept
-    pub first-then : (rows more : List (Row F)) → ((f : F) → says f → tells f) → (accepted → FirstOf tells taken more)
+    pub first-then : (rows more : List (TableRow F)) → ((f : F) → says f → tells f) → (accepted → FirstOf tells taken more)
         → FirstOf says accepted rows → FirstOf tells taken (rows ++ more)
     unfolding FirstOf
     first-then [] more told rest p = rest p

@@ -10,7 +10,7 @@ use borrow.Author.Needs.{needs}
 use Rattle.records_model.specs.Machine.{buffers}
 use Rattle.plate_model.proofs.checks.Conditions.{true-not}
 use Rattle.lens_records.specs.Feeding.{FedTo}
-use Rattle.lens_records.proofs.feeding.Fronts.{fed-none, fed-on}
+use Rattle.lens_records.proofs.laws.feeding.Fronts.{fed-none, fed-on}
 use Rattle.lens_records.proofs.part.Statement.{statement}
 use Rattle.lens_records.proofs.part.Tie as tie
 

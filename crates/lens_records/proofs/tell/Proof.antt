@@ -1,7 +1,7 @@
 -- What a call writes is no longer than its buffer, and what it took is fed.
 use Rattle.records.proofs.answering.Handing.{advanced-room}
 use borrow.Author.Needs.{needs}
-use Rattle.lens_records.proofs.feeding.Fronts.{call-fed}
+use Rattle.lens_records.proofs.laws.feeding.Fronts.{call-fed}
 use Rattle.lens_records.proofs.tell.Statement.{statement}
 use Rattle.lens_records.proofs.tell.Tie as tie
 

@@ -5,7 +5,7 @@ use native.Mathlib.Omega.{arith}
 use native.Mathlib.Nat.{mod-lt, div-add-mod'}
 use lib.ListN.{getD, length}
 use Rattle.plate_model.specs.Layout.{places}
-use Rattle.plate_model.specs.Lent.{State, Ask, Lent, sizedAs}
+use Rattle.plate_model.specs.Lent.{State, Ask, Lent, lengthsOf}
 use Rattle.plate_model.specs.Word.{Unpacked, Whole, Broken, readWord, Entry, EntryRead, Logged, Unreadable, readEntry}
 use Rattle.plate_model.specs.Refusal.{Refusal, Outcome, Accepted, Refused, putCheck, undoCheck}
 use Rattle.plate_model.specs.Change.{askedPlace, askedPixel, Change, ToChange, NoChange, putOver, putReadBy, putRead, undoOver, undoEntry, undoReadBy, undoRead}
@@ -21,7 +21,7 @@ no-change f c e = let z : _≡_ {A = ℕ} 0 1 = cc in absurd (omega arith)
 -- PUT
 module _ (s : State) (a : Ask) (l : Lent) (byte : a .opacity < 256) (c : Change) where
   -- the arguments are lawful, and the word at their place is a pixel's
-  put-whole : PlateAccepted s (sizedAs l) → AskAccepted (s .size) (s .count) (length (l .log)) a
+  put-whole : PlateAccepted s (lengthsOf l) → AskAccepted (s .size) (s .count) (length (l .log)) a
       → (u : Unpacked) → readWord (s .size .reach) (getD (l .pixels) (askedPlace (s .size) a) 0) ≡ u
       → putOver u (s .size) a ≡ ToChange c → PutReady s c l
   unfolding putOver
@@ -48,19 +48,19 @@ module _ (s : State) (a : Ask) (l : Lent) (byte : a .opacity < 256) (c : Change)
         has-room = omega (arith, plate .count-in);
       })
 
-  put-ready-by : (o : Outcome) → putCheck s a (sizedAs l) ≡ o → putReadBy o (s .size) a (l .pixels) ≡ ToChange c → PutReady s c l
+  put-ready-by : (o : Outcome) → putCheck s a (lengthsOf l) ≡ o → putReadBy o (s .size) a (l .pixels) ≡ ToChange c → PutReady s c l
   unfolding putReadBy putCheck
   put-ready-by (Refused f) k e = no-change f c e
   put-ready-by Accepted k e =
-      let plate = plate-accepted s (sizedAs l) _ k in
+      let plate = plate-accepted s (lengthsOf l) _ k in
       put-whole (plate .0) (ask-accepted (s .size) (s .count) (length (l .log)) a (plate .1)) _ refl e
 
 pub put-ready : PutReads
 unfolding putRead
-put-ready s a l byte c e = put-ready-by s a l byte c (putCheck s a (sizedAs l)) refl e
+put-ready s a l byte c e = put-ready-by s a l byte c (putCheck s a (lengthsOf l)) refl e
 
 -- UNDO
-module _ (s : State) (l : Lent) (c : Change) (plate : PlateAccepted s (sizedAs l)) (some : 1 ≤ s .count) where
+module _ (s : State) (l : Lent) (c : Change) (plate : PlateAccepted s (lengthsOf l)) (some : 1 ≤ s .count) where
   undo-whole : (e : Entry) → (e .place < places (s .size)) → Fits (s .size .reach) (e .pixel)
       → (u : Unpacked) → readWord (s .size .reach) (getD (l .pixels) (e .place) 0) ≡ u
       → undoOver (s .size) e u ≡ ToChange c → UndoReady s c l
@@ -93,14 +93,14 @@ module _ (s : State) (l : Lent) (c : Change) (plate : PlateAccepted s (sizedAs l
   undo-logged w Unreadable is q = no-change _ c q
   undo-logged w (Logged e) is q = let h = entry-read (s .size) w e is in undo-whole e (h .0) (h .1) _ refl q
 
-undo-ready-by : (s : State) (l : Lent) (c : Change) (o : Outcome) → undoCheck s (sizedAs l) ≡ o → undoReadBy o s (l .pixels) (l .log) ≡ ToChange c
+undo-ready-by : (s : State) (l : Lent) (c : Change) (o : Outcome) → undoCheck s (lengthsOf l) ≡ o → undoReadBy o s (l .pixels) (l .log) ≡ ToChange c
     → UndoReady s c l
 unfolding undoReadBy undoCheck
 undo-ready-by s l c (Refused f) k q = no-change f c q
 undo-ready-by s l c Accepted k q =
-    let plate = plate-accepted s (sizedAs l) _ k in
+    let plate = plate-accepted s (lengthsOf l) _ k in
     undo-logged s l c (plate .0) (some-accepted s (plate .1)) _ _ refl q
 
 pub undo-ready : UndoReads
 unfolding undoRead
-undo-ready s l c q = undo-ready-by s l c (undoCheck s (sizedAs l)) refl q
+undo-ready s l c q = undo-ready-by s l c (undoCheck s (lengthsOf l)) refl q

@@ -5,11 +5,11 @@ use Prim.Native.Nat.{ℕ, _≤_, _<_}
 use lib.ListN.{getD}
 use Rattle.kernels_model.specs.declared.shape.ShapeRead.the-variants.{Known}
 use Rattle.kernels_model.specs.Shape.{shapeOf, topUnder}
-use Rattle.kernels_model.specs.declared.lens.Lens.{Lens as LensOf}
+use Rattle.kernels_model.specs.declared.lens.Lens.{Lens}
 use Rattle.kernels_model.specs.Lens.{lawfulLens}
 use Rattle.kernels_model.specs.Fixed.{valueTop, depthTop}
 use Rattle.plate_model.specs.Layout.{Size, places}
-use Rattle.plate_model.specs.Lent.{State, Sized, Ask, Inputs}
+use Rattle.plate_model.specs.Lent.{State, LentLengths, Ask, Inputs}
 use Rattle.plate_model.specs.Refusal.{Outcome, Accepted, Value, Depth, sizesCheck, lentCheck, askCheck, layerCheck, plateCheck, emptyCheck}
 use Rattle.plate_model.specs.Change.{askedPlace, knownShape, askedPixel}
 use Rattle.plate_model.specs.Table.{LawfulSize, LentFor}
@@ -20,7 +20,7 @@ use Rattle.plate_model.proofs.checks.Conditions.{count-checks, place-ch
 use Rattle.plate_model.proofs.checks.Passed.{sizes-passed, lent-passed}
 
 -- the plate's checks, whatever comes after them
-pub lent-first : (z : Size) (n : Sized) (next : Outcome) → sizesCheck z (lentCheck z n next) ≡ Accepted
+pub lent-first : (z : Size) (n : LentLengths) (next : Outcome) → sizesCheck z (lentCheck z n next) ≡ Accepted
     → LawfulSize z × LentFor z n × (next ≡ Accepted)
 lent-first z n next e =
     let s = sizes-passed z _ e in
@@ -28,12 +28,12 @@ lent-first z n next e =
     (s .0, l .0, l .1)
 
 -- 1 to 3 of put and undo
-pub record PlateAccepted (s : State) (n : Sized) : Type 0 where
+pub record PlateAccepted (s : State) (n : LentLengths) : Type 0 where
   pub lawful : LawfulSize (s .size)
   pub lent : LentFor (s .size) n
   pub count-in : s .count ≤ n .log
 
-pub plate-accepted : (s : State) (n : Sized) (next : Outcome) → plateCheck s n next ≡ Accepted
+pub plate-accepted : (s : State) (n : LentLengths) (next : Outcome) → plateCheck s n next ≡ Accepted
     → PlateAccepted s n × (next ≡ Accepted)
 unfolding plateCheck
 plate-accepted s n next e =
@@ -81,12 +81,12 @@ pub some-accepted : (s : State) → emptyCheck (s .count) Accepted ≡ Accepted 
 some-accepted s e = check-passed (empty-checks (s .count)) Accepted e .0
 
 -- 5, 6, 11, 12 and 17 of a fill
-pub record LayerAccepted (o : LensOf) (f : Inputs) : Type 0 where
+pub record LayerAccepted (o : Lens) (f : Inputs) : Type 0 where
   pub values-in : (i : ℕ) → getD (f .values) i 0 ≤ valueTop
   pub lens-lawful : lawfulLens o ≡ true
   pub depths-in : (i : ℕ) → getD (f .depths) i 0 ≤ depthTop
 
-pub layer-accepted : (o : LensOf) (k : ℕ) (f : Inputs) → layerCheck o k f ≡ Accepted → LayerAccepted o f
+pub layer-accepted : (o : Lens) (k : ℕ) (f : Inputs) → layerCheck o k f ≡ Accepted → LayerAccepted o f
 unfolding layerCheck
 layer-accepted o k f e =
     let q1 = check-passed (above-checks Value valueTop (f .values)) _ e in

@@ -10,20 +10,20 @@ use lib.Dec.{ltb}
 use lib.ListN.{getD}
 use borrow.Author.Needs.{needs}
 use borrow.Author.Tests.{lt-ltb, le-ltb, le-leb, lt-leb, eq-eqb, ne-eqb}
-use Rattle.kernels_model.specs.declared.shape.Shape.{Shape as ShapeOf}
+use Rattle.kernels_model.specs.declared.shape.Shape.{Shape}
 use Rattle.kernels_model.specs.declared.shape.Shape.the-variants.{Box, Tent, Triple, Diamond, Hexagon, Octagon}
 use Rattle.kernels_model.specs.declared.shape.ShapeRead.{ShapeRead}
 use Rattle.kernels_model.specs.declared.shape.ShapeRead.the-variants.{Known, Unknown}
 use Rattle.kernels_model.specs.Shape.{shapeOf, topUnder}
-use Rattle.kernels_model.specs.declared.lens.Lens.{Lens as LensOf}
+use Rattle.kernels_model.specs.declared.lens.Lens.{Lens}
 use Rattle.kernels_model.specs.Lens.{openingTop, focalTop, focusTop, pitchTop, lawfulLens}
 use Rattle.kernels_model.proofs.numbers.Choices.{by-test, by-lt, by-eq}
 use Rattle.kernels_model.proofs.lenses.ThinLens.{Lawful, lens-true, lawful}
 use Rattle.kernels_model.specs.Fixed.{shapeCount, valueTop}
 use Rattle.plate_model.specs.Fixed.{planesInAll, scratchPlanes, sideTop, placesTop, reachTop, logTop}
 use Rattle.plate_model.specs.Layout.{Size, padded, places, sumsInAll}
-use Rattle.plate_model.specs.Lent.{Sized, Ask}
-use Rattle.plate_model.specs.Refusal.{Refusal, Sizes, Lengths, LogCount, Place, Value, Shape, Radius, LogFull, LogEmpty, Lens, DepthInside, refuseIf, sizesCheck, lengthCheck, lentCheck, inputsCheck, countCheck, placeCheck, valueCheck, shapeCheck, radiusCheck, fullCheck, emptyCheck, anyOf, anyAbove, isBetween, lensCheck, insideCheck}
+use Rattle.plate_model.specs.Lent.{LentLengths, Ask}
+use Rattle.plate_model.specs.Refusal.{Refusal, Sizes, Lengths, LogCount, Place, Value, UnknownShape, LargeRadius, LogFull, LogEmpty, UnlawfulLens, DepthInside, refuseIf, sizesCheck, lengthCheck, lentCheck, inputsCheck, countCheck, placeCheck, valueCheck, shapeCheck, radiusCheck, fullCheck, emptyCheck, anyOf, anyAbove, isBetween, lensCheck, insideCheck}
 use Rattle.plate_model.specs.Change.{knownShape}
 use Rattle.plate_model.specs.Table.{SizesOutside, LentWrong, PlaceOutside, SomeOf, ShapeAbove, RadiusAbove, LensOutside, InsideLens, LawfulSize, LentFor}
 use Rattle.plate_model.proofs.checks.Rows.{Checks, refusing, passing, checks-both}
@@ -57,7 +57,7 @@ length-checks n want =
     (λ e. passing (λ a b. a b) e (λ next. search tests))
     (λ e. refusing (λ a b. a b) e (λ next. search tests))
 
-pub lent-checks : (z : Size) (n : Sized) → Checks Lengths (LentWrong z n) (LentFor z n) (lentCheck z n)
+pub lent-checks : (z : Size) (n : LentLengths) → Checks Lengths (LentWrong z n) (LentFor z n) (lentCheck z n)
 unfolding lentCheck refuseIf
 lent-checks z n =
     by-eq (n .planes) (planesInAll * padded z)
@@ -138,12 +138,12 @@ value-checks v =
     (λ h. passing (λ a b. omega arith) h (λ next. search tests))
 
 -- 6
-pub unknown-not : {P : Type 0} (s : ShapeOf) → Unknown ≡ Known s → P
+pub unknown-not : {P : Type 0} (s : Shape) → Unknown ≡ Known s → P
 unknown-not s e = let z : _≡_ {A = ℕ} 0 1 = cc in absurd (omega arith)
 
 -- a number names a shape, or none where it is above 5
 pub shape-named : (n : ℕ)
-    → (ShapeAbove n × (shapeOf n ≡ Unknown)) ⊎ ((n < shapeCount) × ((s : ShapeOf) × (shapeOf n ≡ Known s)))
+    → (ShapeAbove n × (shapeOf n ≡ Unknown)) ⊎ ((n < shapeCount) × ((s : Shape) × (shapeOf n ≡ Known s)))
 shape-named zero = inr (omega arith, (Box, refl))
 shape-named (suc zero) = inr (omega arith, (Tent, refl))
 shape-named (suc (suc zero)) = inr (omega arith, (Triple, refl))
@@ -157,7 +157,7 @@ shape-apart n a e =
     ⊎-elim (λ t. unknown-not (knownShape (shapeOf n)) (sym (t .1) ∙ e)) (λ t. omega (arith, t .0)) (shape-named n)
 
 pub shape-checks : (n : ℕ)
-    → Checks Shape (ShapeAbove n) (shapeOf n ≡ Known (knownShape (shapeOf n))) (shapeCheck (shapeOf n))
+    → Checks UnknownShape (ShapeAbove n) (shapeOf n ≡ Known (knownShape (shapeOf n))) (shapeCheck (shapeOf n))
 unfolding shapeCheck
 shape-checks n =
     ⊎-elim
@@ -167,7 +167,7 @@ shape-checks n =
 
 -- 7
 pub radius-checks : (R : ℕ) (s : ShapeRead) (r : ℕ)
-    → Checks Radius (RadiusAbove R s r) (¬ (RadiusAbove R s r)) (radiusCheck R s r)
+    → Checks LargeRadius (RadiusAbove R s r) (¬ (RadiusAbove R s r)) (radiusCheck R s r)
 unfolding RadiusAbove radiusCheck refuseIf
 radius-checks R Unknown r = passing (λ a b. b a) (λ a. a) (λ next. refl)
 radius-checks R (Known s) r =
@@ -250,7 +250,7 @@ pub above-checks : (f : Refusal) (top : ℕ) (ns : List ℕ)
     → Checks f (SomeOf (λ n. top < n) ns) ((i : ℕ) → getD ns i 0 ≤ top) (refuseIf (anyAbove top ns) f)
 above-checks f top = some-checks (above-tells top) f
 
-inside-tells : (l : LensOf) → Tells (InsideLens l) (λ d. ¬ (InsideLens l d)) (isBetween 0 (l .focal))
+inside-tells : (l : Lens) → Tells (InsideLens l) (λ d. ¬ (InsideLens l d)) (isBetween 0 (l .focal))
 unfolding isBetween
 inside-tells l =
     record {
@@ -264,12 +264,12 @@ inside-tells l =
       past-end = λ a. a .0 refl;
     }
 
-pub inside-checks : (l : LensOf) (depths : List ℕ)
+pub inside-checks : (l : Lens) (depths : List ℕ)
     → Checks DepthInside (SomeOf (InsideLens l) depths) ((i : ℕ) → ¬ (InsideLens l (getD depths i 0))) (insideCheck l depths)
 inside-checks l = some-checks (inside-tells l) DepthInside
 
 -- 11
-lens-told : (l : LensOf) → LensOutside l ⊎ Lawful l
+lens-told : (l : Lens) → LensOutside l ⊎ Lawful l
 unfolding LensOutside
 lens-told l =
     by-lt (l .opening) 1 (λ h. inl (inl (inl h))) (λ d.
@@ -291,7 +291,7 @@ lens-told l =
       pitch-top = P;
     }))))) (λ h. inl (inr (inr (inl h))))))))
 
-lens-apart : (l : LensOf) → LensOutside l → Lawful l → ⊥
+lens-apart : (l : Lens) → LensOutside l → Lawful l → ⊥
 unfolding LensOutside
 lens-apart l (inl (inl h)) k = omega arith
 lens-apart l (inl (inr h)) k = omega arith
@@ -302,7 +302,7 @@ lens-apart l (inr (inr (inr (inl h)))) k = omega arith
 lens-apart l (inr (inr (inr (inr (inl h))))) k = omega arith
 lens-apart l (inr (inr (inr (inr (inr h))))) k = omega arith
 
-pub lens-checks : (l : LensOf) → Checks Lens (LensOutside l) (lawfulLens l ≡ true) (lensCheck l)
+pub lens-checks : (l : Lens) → Checks UnlawfulLens (LensOutside l) (lawfulLens l ≡ true) (lensCheck l)
 unfolding refuseIf
 lens-checks l =
     let apart : LensOutside l → lawfulLens l ≡ true → ⊥ = λ a b. lens-apart l a (lawful l b) in

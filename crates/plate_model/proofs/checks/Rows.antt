@@ -5,8 +5,8 @@ use mathlib.Core.List.{List, [], _∷_, _++_}
 use Prim.Native.Nat.{ℕ, _≤_}
 use native.Mathlib.Omega.{arith}
 use lib.Dec.{lit≤}
-use Rattle.plate_model.specs.Refusal.{Refusal, Sizes, Lengths, LogCount, Place, Value, Shape, Radius, LogFull, LogEmpty, StoredWord, Lens, Depth, DepthInside, Outcome, Accepted, Refused, refusalNumber}
-use Rattle.kernels_model.specs.Rows.{Row, row, FirstOf}
+use Rattle.plate_model.specs.Refusal.{Refusal, Sizes, Lengths, LogCount, Place, Value, UnknownShape, LargeRadius, LogFull, LogEmpty, StoredWord, UnlawfulLens, Depth, DepthInside, Outcome, Accepted, Refused, refusalNumber}
+use Rattle.kernels_model.specs.Rows.{TableRow, row, FirstOf}
 use Rattle.kernels_model.proofs.refusals.Rows.{NoneOf, none-accepted, accepted-none, same-answer, first-then}
 use Rattle.plate_model.specs.Table.{AnswersBy}
 
@@ -20,26 +20,26 @@ refusal-some Lengths = lit≤ tt
 refusal-some LogCount = lit≤ tt
 refusal-some Place = lit≤ tt
 refusal-some Value = lit≤ tt
-refusal-some Shape = lit≤ tt
-refusal-some Radius = lit≤ tt
+refusal-some UnknownShape = lit≤ tt
+refusal-some LargeRadius = lit≤ tt
 refusal-some LogFull = lit≤ tt
 refusal-some LogEmpty = lit≤ tt
 refusal-some StoredWord = lit≤ tt
-refusal-some Lens = lit≤ tt
+refusal-some UnlawfulLens = lit≤ tt
 refusal-some Depth = lit≤ tt
 refusal-some DepthInside = lit≤ tt
 
 -- AN ANSWER BY ROWS
 -- it is accepted exactly where none applies
-pub none-refused : (rows : List (Row Refusal)) (o : Outcome) → AnswersBy rows o → NoneOf rows → o ≡ Accepted
+pub none-refused : (rows : List (TableRow Refusal)) (o : Outcome) → AnswersBy rows o → NoneOf rows → o ≡ Accepted
 none-refused rows o = none-accepted (λ f. o ≡ Refused f) (o ≡ Accepted) rows
 
-pub refused-none : (rows : List (Row Refusal)) (o : Outcome) → AnswersBy rows o → o ≡ Accepted → NoneOf rows
+pub refused-none : (rows : List (TableRow Refusal)) (o : Outcome) → AnswersBy rows o → o ≡ Accepted → NoneOf rows
 refused-none rows o =
     accepted-none (λ f. o ≡ Refused f) (o ≡ Accepted) rows (λ f r a. refused-not f (sym r ∙ a))
 
 -- and there is one such answer
-pub answered-once : (rows : List (Row Refusal)) (o p : Outcome) → AnswersBy rows o → AnswersBy rows p → o ≡ p
+pub answered-once : (rows : List (TableRow Refusal)) (o p : Outcome) → AnswersBy rows o → AnswersBy rows p → o ≡ p
 answered-once rows o p =
     same-answer (λ f. o ≡ Refused f) (o ≡ Accepted) (λ f. p ≡ Refused f) (p ≡ Accepted) rows
     (λ f a b. a ∙ sym b)
@@ -60,7 +60,7 @@ pub and-then : (a next : Outcome) → andThen a next ≡ Accepted → (a ≡ Acc
 and-then Accepted next e = (refl, e)
 and-then (Refused f) next e = refused-not f e
 
-pub answers-then : (rows more : List (Row Refusal)) (o p : Outcome) → AnswersBy rows o → (o ≡ Accepted → AnswersBy more p)
+pub answers-then : (rows more : List (TableRow Refusal)) (o p : Outcome) → AnswersBy rows o → (o ≡ Accepted → AnswersBy more p)
     → AnswersBy (rows ++ more) (andThen o p)
 answers-then rows more o p first rest =
     first-then (λ f. o ≡ Refused f) (o ≡ Accepted) (λ f. andThen o p ≡ Refused f) (andThen o p ≡ Accepted) rows more
@@ -99,7 +99,7 @@ module _ {f : Refusal} {G C : Type 0} {check : Outcome → Outcome} where
       by-check k (λ g r. rw (r (andThen a next), r a)) (λ c r. rw (r (andThen a next), r a))
 
   -- the row of a check is the first of the rows
-  pub first-check : Checks f G C check → (rows : List (Row Refusal)) (next : Outcome) → (C → AnswersBy rows next)
+  pub first-check : Checks f G C check → (rows : List (TableRow Refusal)) (next : Outcome) → (C → AnswersBy rows next)
       → AnswersBy (row f G ∷ rows) (check next)
   unfolding FirstOf
   first-check k rows next rest =

@@ -6,13 +6,13 @@ use mathlib.Core.List.{List, [], _∷_}
 use Prim.Native.Nat.{ℕ, _-_}
 use lib.ListN.{getD, length}
 use Rattle.kernels_model.specs.Fixed.{valueTop, depthTop}
-use Rattle.kernels_model.specs.Rows.{Row, row, FirstOf}
-use Rattle.kernels_model.specs.declared.lens.Lens.{Lens as LensOf}
+use Rattle.kernels_model.specs.Rows.{TableRow, row, FirstOf}
+use Rattle.kernels_model.specs.declared.lens.Lens.{Lens}
 use Rattle.kernels_model.specs.Shape.{shapeOf}
 use Rattle.plate_model.specs.Layout.{Size, sizeFrom}
-use Rattle.plate_model.specs.Lent.{State, stateOf, Lent, sizedAs, Ask, Inputs, Views, Canvas}
+use Rattle.plate_model.specs.Lent.{State, stateOf, Lent, lengthsOf, Ask, Inputs, Views, Canvas}
 use Rattle.plate_model.specs.Word.{readWord, readEntry}
-use Rattle.plate_model.specs.Refusal.{Refusal, Sizes, Lengths, LogCount, Place, Value, Shape, Radius, LogFull, StoredWord, Lens, Depth, DepthInside, Outcome, Accepted, Refused, openCheck, plateCheck, askCheck, putCheck, undoCheck, emptyCheck, fillFirst, layerCheck, fillCheck, viewsCheck, totalCheck, showCheck, sizesCheck, canvasCheck, keptCheck, showKeptCheck}
+use Rattle.plate_model.specs.Refusal.{Refusal, Sizes, Lengths, LogCount, Place, Value, UnknownShape, LargeRadius, LogFull, StoredWord, UnlawfulLens, Depth, DepthInside, Outcome, Accepted, Refused, openCheck, plateCheck, askCheck, putCheck, undoCheck, emptyCheck, fillFirst, layerCheck, fillCheck, viewsCheck, totalCheck, showCheck, sizesCheck, canvasCheck, keptCheck, showKeptCheck}
 use Rattle.plate_model.specs.Change.{Change, ChangeRead, ToChange, NoChange, askedPlace, putOver, putReadBy, putRead, undoOver, undoEntry, undoReadBy, undoRead}
 use Rattle.plate_model.specs.Calls.{Left, refused, Shown, shows, answerOf, openBy, openCall, putBy, putCall, undoBy, undoCall, fillBy, fillCall, showBy, showCall, changed}
 use Rattle.plate_model.specs.Kept.{Refreshed, leavesKept, keptRead, canvasFirst, canvasBy, putKeptBy, putKeptCall, undoKeptBy, undoKeptCall, sumsBy, ShownKept, showsKept, showKeptBy, showKeptCall}
@@ -41,14 +41,14 @@ module _ {R A : Type 0} (heard : R → Outcome) (outcomeIn : A → Outcome) (ref
   left-is : (r : R) (f : Refusal) → outcomeIn (by r) ≡ Refused f → by r ≡ refusedAs f
   left-is r f e = refuses r f (sym (outcome-is r) ∙ e)
 
-  call-by : (rows : List (Row Refusal)) (r : R) → AnswersBy rows (heard r) → CallBy rows outcomeIn refusedAs (by r)
+  call-by : (rows : List (TableRow Refusal)) (r : R) → AnswersBy rows (heard r) → CallBy rows outcomeIn refusedAs (by r)
   call-by rows r first = record { first = rw (outcome-is r) first; untouched = left-is r }
 
 -- a call of planes, pixels and log
 module _ {R : Type 0} (heard : R → Outcome) (s : State) (l : Lent) (by : R → Left)
     (accepts : (r : R) → heard r ≡ Accepted → by r .answer .outcome ≡ Accepted)
     (refuses : (r : R) (f : Refusal) → heard r ≡ Refused f → by r ≡ refused f s l) where
-  goes-by : (rows : List (Row Refusal)) (r : R) → AnswersBy rows (heard r) → GoesBy rows s l (by r)
+  goes-by : (rows : List (TableRow Refusal)) (r : R) → AnswersBy rows (heard r) → GoesBy rows s l (by r)
   goes-by = call-by heard (λ (a : Left). a .answer .outcome) (λ f. refused f s l) by accepts refuses (λ f. refl)
 
 -- OPEN
@@ -56,7 +56,7 @@ open-goes : (z : Size) (l : Lent) → GoesBy (openRows z l) (stateOf (sizeFrom 0
 unfolding openCall openBy openCheck
 open-goes z l =
     goes-by (λ o. o) (stateOf (sizeFrom 0 0 0) 0) l (λ o. openBy o z l) (λ o e. rw e) (λ o f e. rw e) (openRows z l) _
-    (first-check (sizes-checks z) _ _ (λ _. first-check (lent-checks z (sizedAs l)) [] Accepted (λ _. last-row)))
+    (first-check (sizes-checks z) _ _ (λ _. first-check (lent-checks z (lengthsOf l)) [] Accepted (λ _. last-row)))
 
 -- WHAT PUT AND UNDO READ
 -- the outcome of what was read
@@ -73,14 +73,14 @@ refusal-read (ToChange c) f e = refused-not f (sym e)
 refusal-read (NoChange g) f e = let same : g ≡ f = cc in rw same
 
 -- 1 2 3, and what is known where they pass
-plate-first : (s : State) (l : Lent) (rows : List (Row Refusal)) (next : Outcome) → (LawfulSize (s .size) → AnswersBy rows next)
+plate-first : (s : State) (l : Lent) (rows : List (TableRow Refusal)) (next : Outcome) → (LawfulSize (s .size) → AnswersBy rows next)
     → AnswersBy
-    (row Sizes (SizesOutside (s .size)) ∷ row Lengths (LentWrong (s .size) (sizedAs l)) ∷ row LogCount (CountAbove s l) ∷ rows)
-    (plateCheck s (sizedAs l) next)
+    (row Sizes (SizesOutside (s .size)) ∷ row Lengths (LentWrong (s .size) (lengthsOf l)) ∷ row LogCount (CountAbove s l) ∷ rows)
+    (plateCheck s (lengthsOf l) next)
 unfolding plateCheck
 plate-first s l rows next rest =
     first-check (sizes-checks (s .size)) _ _ (λ lawful.
-    first-check (lent-checks (s .size) (sizedAs l)) _ _ (λ _.
+    first-check (lent-checks (s .size) (lengthsOf l)) _ _ (λ _.
     first-check (count-checks (s .count) (length (l .log))) rows next (λ _. rest lawful)))
 
 -- what is read where a check accepts
@@ -123,8 +123,8 @@ ask-first : (z : Size) (n room : ℕ) (a : Ask)
     → AnswersBy
     (row Place (PlaceOutside z (a .x) (a .y))
     ∷ row Value (ValueAbove (a .value))
-    ∷ row Shape (ShapeAbove (a .shape))
-    ∷ row Radius (RadiusAbove (z .reach) (shapeOf (a .shape)) (a .radius))
+    ∷ row UnknownShape (ShapeAbove (a .shape))
+    ∷ row LargeRadius (RadiusAbove (z .reach) (shapeOf (a .shape)) (a .radius))
     ∷ row LogFull (n ≡ room)
     ∷ [])
     (askCheck z n room a)
@@ -137,11 +137,11 @@ ask-first z n room a =
     first-check (full-checks n room) [] Accepted (λ _. last-row)))))
 
 -- what it reads goes by the rows
-put-reads : (s : State) (a : Ask) (l : Lent) → AnswersBy (putRows s a l) (outcomeOf (putRead s a (sizedAs l) (l .pixels)))
+put-reads : (s : State) (a : Ask) (l : Lent) → AnswersBy (putRows s a l) (outcomeOf (putRead s a (lengthsOf l) (l .pixels)))
 unfolding putRead putCheck
 put-reads s a l =
     let z = s .size in
-    let check = plateCheck s (sizedAs l) (askCheck z (s .count) (length (l .log)) a) in
+    let check = plateCheck s (lengthsOf l) (askCheck z (s .count) (length (l .log)) a) in
     rw (put-outcome check z a (l .pixels))
     (answers-then _ _ check _
     (plate-first s l _ _ (λ _. ask-first z (s .count) (length (l .log)) a))
@@ -151,33 +151,33 @@ put-goes : (s : State) (a : Ask) (l : Lent) → GoesBy (putRows s a l) s l (putC
 unfolding putCall putBy changed
 put-goes s a l =
     goes-by outcomeOf s l (λ r. putBy r s l) (λ r e. rw (change-read r e .1)) (λ r f e. rw (refusal-read r f e)) (putRows s a l)
-    (putRead s a (sizedAs l) (l .pixels)) (put-reads s a l)
+    (putRead s a (lengthsOf l) (l .pixels)) (put-reads s a l)
 
 -- UNDO
-undo-reads : (s : State) (l : Lent) → AnswersBy (undoRows s l) (outcomeOf (undoRead s (sizedAs l) (l .pixels) (l .log)))
+undo-reads : (s : State) (l : Lent) → AnswersBy (undoRows s l) (outcomeOf (undoRead s (lengthsOf l) (l .pixels) (l .log)))
 unfolding undoRead undoCheck
 undo-reads s l =
     let z = s .size in
-    let check = plateCheck s (sizedAs l) (emptyCheck (s .count) Accepted) in
+    let check = plateCheck s (lengthsOf l) (emptyCheck (s .count) Accepted) in
     rw (undo-outcome check s (l .pixels) (l .log))
     (answers-then _ _ check _
     (plate-first s l _ _ (λ _. first-check (empty-checks (s .count)) [] Accepted (λ _. last-row)))
     (λ e. undo-stored z _ (l .pixels)
-    (entry-told z (getD (l .log) (s .count - 1) 0) (plate-accepted s (sizedAs l) _ e .0 .lawful))))
+    (entry-told z (getD (l .log) (s .count - 1) 0) (plate-accepted s (lengthsOf l) _ e .0 .lawful))))
 
 undo-goes : (s : State) (l : Lent) → GoesBy (undoRows s l) s l (undoCall s l)
 unfolding undoCall undoBy changed
 undo-goes s l =
     goes-by outcomeOf s l (λ r. undoBy r s l) (λ r e. rw (change-read r e .1)) (λ r f e. rw (refusal-read r f e)) (undoRows s l)
-    (undoRead s (sizedAs l) (l .pixels) (l .log)) (undo-reads s l)
+    (undoRead s (lengthsOf l) (l .pixels) (l .log)) (undo-reads s l)
 
 -- FILL
 -- 5 6 11 12 17
-layer-first : (o : LensOf) (k : ℕ) (f : Inputs)
+layer-first : (o : Lens) (k : ℕ) (f : Inputs)
     → AnswersBy
     (row Value (SomeOf ValueAbove (f .values))
-    ∷ row Shape (ShapeAbove k)
-    ∷ row Lens (LensOutside o)
+    ∷ row UnknownShape (ShapeAbove k)
+    ∷ row UnlawfulLens (LensOutside o)
     ∷ row Depth (SomeOf DepthAbove (f .depths))
     ∷ row DepthInside (SomeOf (InsideLens o) (f .depths))
     ∷ [])
@@ -190,14 +190,14 @@ layer-first o k f =
     first-check (above-checks Depth depthTop (f .depths)) _ _ (λ _.
     first-check (inside-checks o (f .depths)) [] Accepted (λ _. last-row)))))
 
-fill-goes : (s : State) (o : LensOf) (k : ℕ) (f : Inputs) (l : Lent) → GoesBy (fillRows s o k f l) s l (fillCall s o k f l)
+fill-goes : (s : State) (o : Lens) (k : ℕ) (f : Inputs) (l : Lent) → GoesBy (fillRows s o k f l) s l (fillCall s o k f l)
 unfolding fillCall fillBy fillCheck fillFirst InputsWrong
 fill-goes s o k f l =
     let z = s .size in
     let inputs = inputs-checks z (length (f .values)) (length (f .opacities)) (length (f .depths)) in
     goes-by (λ c. c) s l (λ c. fillBy c s o k f l) (λ c e. rw e) (λ c g e. rw e) (fillRows s o k f l) _
     (first-check (sizes-checks z) _ _ (λ _.
-    first-check (checks-both (lent-checks z (sizedAs l)) inputs) _ _ (λ _.
+    first-check (checks-both (lent-checks z (lengthsOf l)) inputs) _ _ (λ _.
     first-check (count-checks (s .count) (length (l .log))) _ _ (λ _. layer-first o k f))))
 
 -- SHOW
@@ -219,7 +219,7 @@ show-goes s planes v =
 -- THE SECOND FORMS
 -- a length more is checked after the sizes, and before what the first form checks: it is one more reason for 2
 also-checked : {C D : Type 0} {check : Outcome → Outcome} (z : Size) → Checks Lengths C D check
-    → (L : Type 0) (rows : List (Row Refusal)) (next : Outcome)
+    → (L : Type 0) (rows : List (TableRow Refusal)) (next : Outcome)
     → AnswersBy (row Sizes (SizesOutside z) ∷ row Lengths L ∷ rows) next
     → AnswersBy (row Sizes (SizesOutside z) ∷ row Lengths (L ⊎ C) ∷ rows) (sizesCheck z (check next))
 unfolding FirstOf
@@ -245,7 +245,7 @@ kept-outcome Accepted r = refl
 kept-outcome (Refused f) r = refl
 
 -- the second form of put or undo reads by the rows of the first, and 2 comes from sums and pictures too
-kept-reads : (z : Size) (k : Canvas) (L : Type 0) (rows : List (Row Refusal)) (r : ChangeRead)
+kept-reads : (z : Size) (k : Canvas) (L : Type 0) (rows : List (TableRow Refusal)) (r : ChangeRead)
     → AnswersBy (row Sizes (SizesOutside z) ∷ row Lengths L ∷ rows) (outcomeOf r)
     → AnswersBy (row Sizes (SizesOutside z) ∷ row Lengths (L ⊎ CanvasWrong z k) ∷ rows) (outcomeOf (keptRead (canvasFirst z k) r))
 unfolding keptCheck canvasCheck CanvasWrong
@@ -263,7 +263,7 @@ unfolding putKeptCall putKeptBy putBy changed canvasBy
 put-kept-goes s a l k =
     call-by outcomeOf (λ (c : Refreshed). c .call .answer .outcome) (λ f. leavesKept (answerOf (Refused f) 0 s) l k)
     (λ r. putKeptBy r s l k) (λ r e. rw (change-read r e .1)) (λ r f e. rw (refusal-read r f e)) (λ f. refl) (putKeptRows s a l k)
-    (keptRead (canvasFirst (s .size) k) (putRead s a (sizedAs l) (l .pixels)))
+    (keptRead (canvasFirst (s .size) k) (putRead s a (lengthsOf l) (l .pixels)))
     (kept-reads (s .size) k _ _ _ (put-reads s a l))
 
 undo-kept-goes : (s : State) (l : Lent) (k : Canvas) → KeptGoesBy (undoKeptRows s l k) s l k (undoKeptCall s l k)
@@ -271,7 +271,7 @@ unfolding undoKeptCall undoKeptBy undoBy changed canvasBy
 undo-kept-goes s l k =
     call-by outcomeOf (λ (c : Refreshed). c .call .answer .outcome) (λ f. leavesKept (answerOf (Refused f) 0 s) l k)
     (λ r. undoKeptBy r s l k) (λ r e. rw (change-read r e .1)) (λ r f e. rw (refusal-read r f e)) (λ f. refl) (undoKeptRows s l k)
-    (keptRead (canvasFirst (s .size) k) (undoRead s (sizedAs l) (l .pixels) (l .log)))
+    (keptRead (canvasFirst (s .size) k) (undoRead s (lengthsOf l) (l .pixels) (l .log)))
     (kept-reads (s .size) k _ _ _ (undo-reads s l))
 
 show-kept-goes : (s : State) (planes : List ℕ) (v : Views) (sums : List ℕ)
@@ -323,4 +323,4 @@ orders =
 -- PLATES THERE ARE
 pub open-accepts : OpenAccepts
 unfolding openCheck
-open-accepts z l lawful lent = sizes-pass z _ lawful ∙ lent-pass z (sizedAs l) Accepted lent
+open-accepts z l lawful lent = sizes-pass z _ lawful ∙ lent-pass z (lengthsOf l) Accepted lent

@@ -10,11 +10,11 @@ use Rattle.plate_model.specs.Layout.{Size, padded, places, sumsInAll}
 use Rattle.plate_model.specs.Word.{Pixel, empty, Entry}
 use Rattle.plate_model.specs.Refusal.{Refusal, Lengths, Outcome, Accepted, Refused, viewsCheck, openCheck, showCheck, keptCheck, showKeptCheck}
 use Rattle.plate_model.specs.Change.{ChangeRead, NoChange}
-use Rattle.plate_model.specs.Lent.{stateOf, Lent, sizedAs, Views, Canvas, Ask, ask, inputs}
+use Rattle.plate_model.specs.Lent.{stateOf, Lent, lengthsOf, Views, Canvas, Ask, ask, inputs}
 use Rattle.plate_model.specs.Calls.{Left, refused, answerOf, zeros, listTo, putBy, putCall, undoBy, undoCall, sumAt, shown, showBy, showCall, openCall}
 use Rattle.plate_model.specs.Kept.{keptRead, canvasFirst, putKeptBy, putKeptCall, undoKeptBy, undoKeptCall, showKeptBy, showKeptCall}
 use Rattle.plate_model.specs.Plain.{matteOf, lightOf, plainSum, plainValues, plainMattes}
-use Rattle.plate_model.specs.Notebook.{Book, bookOf, openBook, both, Report, Turn, bookShowBy, bookShow, bookKept, canvasWith, bookPutKept, bookUndoKept, bookShowKept}
+use Rattle.plate_model.specs.Notebook.{Book, bookOf, openBook, both, Report, BookLeft, bookShowBy, bookShow, bookKept, canvasWith, bookPutKept, bookUndoKept, bookShowKept}
 use Rattle.plate_model.specs.Lists.{Byte, codes, Call, Plate, leftBy, putIt, undoIt, fillIt, showIt, putKeptIt, undoKeptIt, showKeptIt, stepOf, seenBy, shownTo, plateStep, bookStep, plateReports, plateAfter, bookReports, bookAfter, Holds, Demand3, Demand2}
 use Rattle.plate_model.proofs.checks.Rows.{by-check}
 use Rattle.plate_model.proofs.checks.Conditions.{length-checks}
@@ -86,7 +86,7 @@ module _ (z : Size) (room : ℕ) (planes : List ℕ) (grid : List Pixel) (pile :
 
   -- a second form is the first, or refused for them
   kept-agrees : (by : ChangeRead → Left) → ((f : Refusal) → by (NoChange f) ≡ refused f (stateOf z (length pile)) (heldBy room planes grid pile))
-      → (o : Outcome) (r : ChangeRead) (t : Turn) → Agree z room (stepOf (by r)) t
+      → (o : Outcome) (r : ChangeRead) (t : BookLeft) → Agree z room (stepOf (by r)) t
       → Agree z room (stepOf (by (keptRead o r))) (bookKept o (bookOf z room grid pile) t)
   unfolding keptRead bookKept
   kept-agrees by refuses Accepted r t first = first
@@ -186,7 +186,7 @@ lists-from (c ∷ cs) z room planes grid pile kept =
     }
 
 -- and so from every accepted open
-pub opened : (z : Size) (l : Lent) (calls : List Call) → openCheck z (sizedAs l) ≡ Accepted
+pub opened : (z : Size) (l : Lent) (calls : List Call) → openCheck z (lengthsOf l) ≡ Accepted
     → Followed (length (l .log)) calls (leftBy (openCall z l)) (openBook z (length (l .log)))
 opened z l calls e =
     rw (open-mirror z l e)

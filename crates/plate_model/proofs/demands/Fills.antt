@@ -7,14 +7,14 @@ use native.Mathlib.Nat.{zero-add}
 use lib.Dec.{lit<, lit≤}
 use lib.ListN.{getD, length, replicate, length-replicate}
 use Rattle.kernels_model.specs.Shape.{shapeOf, topUnder}
-use Rattle.kernels_model.specs.declared.lens.Lens.{Lens as LensOf}
+use Rattle.kernels_model.specs.declared.lens.Lens.{Lens}
 use Rattle.kernels_model.specs.Mark.{Mark, marks}
 use Rattle.kernels_model.proofs.numbers.Choices.{same-mul}
 use Rattle.kernels_model.proofs.sums.FiniteSums.{sum-ext, sum-ext-lt, sum-zero}
 use Rattle.plate_model.specs.Layout.{Size, cell, places, columnOf, rowOf}
 use Rattle.plate_model.specs.Word.{Pixel, empty, wordOf, Entry}
 use Rattle.plate_model.specs.Refusal.{Outcome, Accepted, Refused, inputsCheck, layerCheck, openCheck, fillCheck, fillFirst}
-use Rattle.plate_model.specs.Lent.{stateOf, Lent, lent, sizedAs, Inputs}
+use Rattle.plate_model.specs.Lent.{stateOf, Lent, lent, lengthsOf, Inputs}
 use Rattle.plate_model.specs.Marks.{inBoth, pixelMarks, layGrid, onCell}
 use Rattle.plate_model.specs.Calls.{zeros, listTo, filled, fillBy, fillCall, openBy, openCall}
 use Rattle.plate_model.specs.Change.{knownShape}
@@ -37,7 +37,7 @@ empty-fits R = record { value-fits = lit≤ tt; opacity-fits = lit< tt; radius-f
 
 -- FILL
 -- a filled pixel is lawful
-filled-fits : (z : Size) (o : LensOf) (n : ℕ) (f : Inputs) → layerCheck o n f ≡ Accepted
+filled-fits : (z : Size) (o : Lens) (n : ℕ) (f : Inputs) → layerCheck o n f ≡ Accepted
     → ((i : ℕ) → getD (f .opacities) i 0 < 256)
     → (i : ℕ) → Fits (z .reach) (filled z o (knownShape (shapeOf n)) f i)
 unfolding filled
@@ -62,7 +62,7 @@ laid-cell z g m k h =
     (λ i p. ap (λ (q : Pixel). onCell z k (pixelMarks z i q)) (sym (getD-listTo g (places z) i empty p)))))
 
 module _ (z : Size) (room : ℕ) (planes : List ℕ) (grid : List Pixel) (pile : List Entry) (kept : Mirrored z room planes grid pile) where
-  fill-done : (o : LensOf) (n : ℕ) (f : Inputs) → ((i : ℕ) → getD (f .opacities) i 0 < 256) → layerCheck o n f ≡ Accepted
+  fill-done : (o : Lens) (n : ℕ) (f : Inputs) → ((i : ℕ) → getD (f .opacities) i 0 < 256) → layerCheck o n f ≡ Accepted
       → Agree z room
       (stepOf (fillBy Accepted (stateOf z (length pile)) o n f (heldBy room planes grid pile)))
       (bookFillBy Accepted (bookOf z room grid pile) o n f)
@@ -76,7 +76,7 @@ module _ (z : Size) (room : ℕ) (planes : List ℕ) (grid : List Pixel) (pile :
         pile = [];
         same-report = refl;
         same-plate =
-            ap (λ (m : ℕ). record { state = stateOf z 0; kept = lent cells (map wordOf (listTo pixel (places z))) (zeros m) })
+            ap (λ (m : ℕ). record { state = stateOf z 0; buffers = lent cells (map wordOf (listTo pixel (places z))) (zeros m) })
             (log-length room pile);
         same-book = refl;
         kept = record {
@@ -95,7 +95,7 @@ module _ (z : Size) (room : ℕ) (planes : List ℕ) (grid : List Pixel) (pile :
         };
       }
 
-  fill-by : (o : LensOf) (n : ℕ) (f : Inputs) → ((i : ℕ) → getD (f .opacities) i 0 < 256) → (c : Outcome)
+  fill-by : (o : Lens) (n : ℕ) (f : Inputs) → ((i : ℕ) → getD (f .opacities) i 0 < 256) → (c : Outcome)
       → inputsCheck z (length (f .values)) (length (f .opacities)) (length (f .depths)) (layerCheck o n f) ≡ c
       → Agree z room
       (stepOf (fillBy c (stateOf z (length pile)) o n f (heldBy room planes grid pile)))
@@ -103,8 +103,8 @@ module _ (z : Size) (room : ℕ) (planes : List ℕ) (grid : List Pixel) (pile :
   fill-by o n f bytes Accepted e = fill-done o n f bytes (check-passed (inputs-checks z _ _ _) (layerCheck o n f) e .1)
   fill-by o n f bytes (Refused g) e = unfold fillBy bookFillBy in (agree-refused z room planes grid pile kept g)
 
-  fill-checks : (o : LensOf) (n : ℕ) (f : Inputs)
-      → fillCheck (stateOf z (length pile)) o n f (sizedAs (heldBy room planes grid pile))
+  fill-checks : (o : Lens) (n : ℕ) (f : Inputs)
+      → fillCheck (stateOf z (length pile)) o n f (lengthsOf (heldBy room planes grid pile))
       ≡ inputsCheck z (length (f .values)) (length (f .opacities)) (length (f .depths)) (layerCheck o n f)
   unfolding fillCheck fillFirst
   fill-checks o n f =
@@ -113,7 +113,7 @@ module _ (z : Size) (room : ℕ) (planes : List ℕ) (grid : List Pixel) (pile :
       ∙ ap (inputsCheck z (length (f .values)) (length (f .opacities)) (length (f .depths)))
       (count-kept z room planes grid pile kept (layerCheck o n f))
 
-  pub fill-agrees : (o : LensOf) (n : ℕ) (f : Inputs) → ((i : ℕ) → getD (f .opacities) i 0 < 256)
+  pub fill-agrees : (o : Lens) (n : ℕ) (f : Inputs) → ((i : ℕ) → getD (f .opacities) i 0 < 256)
       → Agree z room
       (stepOf (fillCall (stateOf z (length pile)) o n f (heldBy room planes grid pile)))
       (bookFill (bookOf z room grid pile) o n f)
@@ -147,12 +147,12 @@ open-cell z m k =
     ∙ sym (ap (λ (n : ℕ). n % 2 ^ 64)
     (sum-ext _ (λ i. 0) (λ i. rw (getD-same (places z) empty i) (empty-lays z k i)) (places z) ∙ sum-zero (places z)))
 
-pub open-kept : (z : Size) (l : Lent) → openCheck z (sizedAs l) ≡ Accepted
+pub open-kept : (z : Size) (l : Lent) → openCheck z (lengthsOf l) ≡ Accepted
     → Mirrored z (length (l .log)) (zeros (length (l .planes))) (replicate (places z) empty) []
 unfolding openCheck PileFits
 open-kept z l e =
     let q1 = sizes-passed z _ e in
-    let q2 = lent-passed z (sizedAs l) _ (q1 .1) in
+    let q2 = lent-passed z (lengthsOf l) _ (q1 .1) in
     record {
       lawful = q1 .0;
       cells-count = length-replicate {A = ℕ} (length (l .planes)) 0 ∙ q2 .0 .planes-are;
@@ -164,11 +164,11 @@ open-kept z l e =
       room-top = q2 .0 .log-top;
     }
 
-pub open-mirror : (z : Size) (l : Lent) → openCheck z (sizedAs l) ≡ Accepted
+pub open-mirror : (z : Size) (l : Lent) → openCheck z (lengthsOf l) ≡ Accepted
     → leftBy (openCall z l) ≡ mirror z (length (l .log)) (zeros (length (l .planes))) (replicate (places z) empty) []
 unfolding openCall openBy logBy openCheck
 open-mirror z l e =
-    let q = lent-passed z (sizedAs l) _ (sizes-passed z _ e .1) in
+    let q = lent-passed z (lengthsOf l) _ (sizes-passed z _ e .1) in
     rw e (ap
-    (λ (ws : List ℕ). record { state = stateOf z 0; kept = lent (zeros (length (l .planes))) ws (zeros (length (l .log))) })
+    (λ (ws : List ℕ). record { state = stateOf z 0; buffers = lent (zeros (length (l .planes))) ws (zeros (length (l .log))) })
     (ap (λ (n : ℕ). zeros n) (q .0 .pixels-are) ∙ sym (empty-words (places z))))

@@ -11,12 +11,12 @@ use Rattle.kernels_model.proofs.sums.FiniteSums.{sum-ext-lt}
 use Rattle.plate_model.specs.Layout.{Size, padded, places}
 use Rattle.plate_model.specs.Word.{Pixel, wordOf, Entry, loggedAs}
 use Rattle.plate_model.specs.Refusal.{Refusal, LogEmpty, Outcome, Accepted, Refused, refuseIf, countCheck, emptyCheck, askCheck, putCheck, undoCheck, plateCheck}
-use Rattle.plate_model.specs.Lent.{stateOf, Lent, lent, sizedAs, Ask}
+use Rattle.plate_model.specs.Lent.{stateOf, Lent, lent, lengthsOf, Ask}
 use Rattle.plate_model.specs.Marks.{pixelMarks, onCell, exchanged}
 use Rattle.plate_model.specs.Calls.{refused, putBy, putCall, undoBy, undoCall, changed}
 use Rattle.plate_model.specs.Change.{askedPlace, askedPixel, putOver, undoOver, undoEntry, putRead, undoRead, putReadBy, undoReadBy}
 use Rattle.plate_model.specs.Plain.{pixelAt, gridCell}
-use Rattle.plate_model.specs.Notebook.{bookOf, Report, Turn, turn, turnedDown, bookPutBy, bookPut, bookUndoOf, bookUndo}
+use Rattle.plate_model.specs.Notebook.{bookOf, Report, BookLeft, bookLeft, bookRefused, bookPutBy, bookPut, bookUndoOf, bookUndo}
 use Rattle.plate_model.specs.Lists.{Plate, Step, stepOf}
 use Rattle.plate_model.proofs.checks.Rows.{check-passes}
 use Rattle.plate_model.proofs.checks.Conditions.{empty-checks}
@@ -51,10 +51,10 @@ abbrev pub heldBy : ℕ → List ℕ → List Pixel → List Entry → Lent
 heldBy room planes grid pile = lent planes (map wordOf grid) (logBy room pile)
 
 abbrev pub mirror : Size → ℕ → List ℕ → List Pixel → List Entry → Plate
-mirror z room planes grid pile = record { state = stateOf z (length pile); kept = heldBy room planes grid pile }
+mirror z room planes grid pile = record { state = stateOf z (length pile); buffers = heldBy room planes grid pile }
 
--- a plate's step and a notebook's turn that agree: the same report, and the invariant after them
-pub record Agree (z : Size) (room : ℕ) (s : Step) (t : Turn) : Type 0 where
+-- a plate's step and a notebook's bookLeft that agree: the same report, and the invariant after them
+pub record Agree (z : Size) (room : ℕ) (s : Step) (t : BookLeft) : Type 0 where
   pub planes : List ℕ
   pub grid : List Pixel
   pub pile : List Entry
@@ -65,9 +65,9 @@ pub record Agree (z : Size) (room : ℕ) (s : Step) (t : Turn) : Type 0 where
 
 -- the same counts and lists make the same plate
 plate-eq : (z : Size) (planes : List ℕ) {c c' : ℕ} {pixels pixels' log log' : List ℕ} → c ≡ c' → pixels ≡ pixels' → log ≡ log'
-    → _≡_ {A = Plate} (record { state = stateOf z c; kept = lent planes pixels log })
-    (record { state = stateOf z c'; kept = lent planes pixels' log' })
-plate-eq z planes p q r = λ i. record { state = stateOf z (p i); kept = lent planes (q i) (r i) }
+    → _≡_ {A = Plate} (record { state = stateOf z c; buffers = lent planes pixels log })
+    (record { state = stateOf z c'; buffers = lent planes pixels' log' })
+plate-eq z planes p q r = λ i. record { state = stateOf z (p i); buffers = lent planes (q i) (r i) }
 
 -- ONE PIXEL CHANGED
 -- one term of a sum changed
@@ -117,7 +117,7 @@ one-changed z room planes grid pile pile' i new kept h fits height pile-fits =
 -- STEPS
 module _ (z : Size) (room : ℕ) (planes : List ℕ) (grid : List Pixel) (pile : List Entry) (kept : Mirrored z room planes grid pile) where
   -- "2 comes there only from these, and 1, 3 and 10 are never given"
-  pub lent-kept : LentFor z (sizedAs (heldBy room planes grid pile))
+  pub lent-kept : LentFor z (lengthsOf (heldBy room planes grid pile))
   lent-kept =
       record {
         planes-are = kept .cells-count;
@@ -130,13 +130,13 @@ module _ (z : Size) (room : ℕ) (planes : List ℕ) (grid : List Pixel) (pile :
       count-pass (length pile) (length (logBy room pile)) next (omega (arith, log-length room pile, kept .height-fits))
 
   checks-kept : (next : Outcome)
-      → plateCheck (stateOf z (length pile)) (sizedAs (heldBy room planes grid pile)) next ≡ next
+      → plateCheck (stateOf z (length pile)) (lengthsOf (heldBy room planes grid pile)) next ≡ next
   unfolding plateCheck
   checks-kept next = sizes-pass z _ (kept .lawful) ∙ lent-pass z _ _ lent-kept ∙ count-kept next
 
   -- a call that changes nothing
   pub agree-still : (r q : Report) → r ≡ q
-      → Agree z room (record { report = r; plate = mirror z room planes grid pile }) (turn q (bookOf z room grid pile))
+      → Agree z room (record { report = r; plate = mirror z room planes grid pile }) (bookLeft q (bookOf z room grid pile))
   agree-still r q e =
       record {
         planes = planes;
@@ -151,7 +151,7 @@ module _ (z : Size) (room : ℕ) (planes : List ℕ) (grid : List Pixel) (pile :
   pub agree-refused : (f : Refusal)
       → Agree z room
       (stepOf (refused f (stateOf z (length pile)) (heldBy room planes grid pile)))
-      (turnedDown (Refused f) (bookOf z room grid pile))
+      (bookRefused (Refused f) (bookOf z room grid pile))
   agree-refused f = agree-still _ _ refl
 
   -- PUT

@@ -7,7 +7,7 @@ use native.Mathlib.Omega.{arith}
 use lib.ListN.{length, length-append}
 use Rattle.kernels_model.specs.Fixed.{planesEach}
 use Rattle.plate_model.specs.Layout.{Size, places, sumsInAll}
-use Rattle.plate_model.specs.Lent.{State, Ask, ask, Lent, sizedAs, Views, Canvas, canvas}
+use Rattle.plate_model.specs.Lent.{State, Ask, ask, Lent, lengthsOf, Views, Canvas, canvas}
 use Rattle.plate_model.specs.Marks.{exchanged}
 use Rattle.plate_model.specs.Refusal.{Refusal, Outcome, Accepted, Refused, canvasCheck, openCheck, showCheck, showKeptCheck, keptCheck}
 use Rattle.plate_model.specs.Change.{Change, ChangeRead, ToChange, NoChange}
@@ -15,7 +15,7 @@ use Rattle.plate_model.specs.Calls.{listTo, openCall, changed, putBy, pu
 use Rattle.plate_model.specs.Plain.{plainValues, plainMattes}
 use Rattle.plate_model.specs.Notebook.{openBook}
 use Rattle.plate_model.specs.Kept.{keptRead, canvasFirst, canvasBy, putKeptBy, putKeptCall, undoKeptBy, undoKeptCall, sumsOf, sumsBy, showKeptBy, showKeptCall}
-use Rattle.plate_model.specs.Painting.{canvasOf, StaysFresh, Dab, dab, stepBack, Painting, paint, paintAll, shownCanvas, shownPainting, AsMuch, PaintsFresh, firstForm, PaintsPlain}
+use Rattle.plate_model.specs.Painting.{canvasOf, StaysFresh, KeptCall, keptPut, keptUndo, Painting, paint, paintAll, shownCanvas, shownPainting, AsMuch, PaintsFresh, firstForm, PaintsPlain}
 use Rattle.plate_model.specs.Lists.{Call, Plate, leftBy, plateStep, plateAfter, bookAfter}
 use Rattle.plate_model.specs.Table.{LawfulSize}
 use Rattle.plate_model.specs.Ready.{Changeable}
@@ -47,18 +47,18 @@ canvas-fresh z planes planes' still moved (ToChange c) ok = rw (moved c) (mended
 -- a put and an undo are such calls
 put-fresh : (s : State) (a : Ask) (l : Lent) → a .opacity < 256 →
     let after = putKeptCall s a l (canvasOf (s .size) (l .planes)) in
-    after .canvas ≡ canvasOf (s .size) (after .call .kept .planes)
+    after .canvas ≡ canvasOf (s .size) (after .call .buffers .planes)
 unfolding putKeptCall putKeptBy putBy changed
 put-fresh s a l byte =
-    canvas-fresh (s .size) (l .planes) (λ r. putBy r s l .kept .planes) (λ f. refl) (λ c. refl) _
+    canvas-fresh (s .size) (l .planes) (λ r. putBy r s l .buffers .planes) (λ f. refl) (λ c. refl) _
     (λ c e. put-ready s a l byte c (read-first _ _ c e) .changeable)
 
 undo-fresh : (s : State) (l : Lent) →
     let after = undoKeptCall s l (canvasOf (s .size) (l .planes)) in
-    after .canvas ≡ canvasOf (s .size) (after .call .kept .planes)
+    after .canvas ≡ canvasOf (s .size) (after .call .buffers .planes)
 unfolding undoKeptCall undoKeptBy undoBy changed
 undo-fresh s l =
-    canvas-fresh (s .size) (l .planes) (λ r. undoBy r s l .kept .planes) (λ f. refl) (λ c. refl) _
+    canvas-fresh (s .size) (l .planes) (λ r. undoBy r s l .buffers .planes) (λ f. refl) (λ c. refl) _
     (λ c e. undo-ready s l c (read-first _ _ c e) .changeable)
 
 pub stays-fresh : StaysFresh
@@ -67,51 +67,51 @@ stays-fresh = record { by-put = put-fresh; by-undo = undo-fresh }
 -- LISTS OF PUTS AND UNDOS
 -- what is kept is the plate's
 abbrev Fresh : Painting → Type 0
-Fresh p = p .kept ≡ canvasOf (p .plate .state .size) (p .plate .kept .planes)
+Fresh p = p .canvas ≡ canvasOf (p .plate .state .size) (p .plate .buffers .planes)
 
 -- neither call changes the size, nor how many cells the planes have
 abbrev StillAs : Plate → Plate → Type 0
-StillAs p q = (q .state .size ≡ p .state .size) × (length (q .kept .planes) ≡ length (p .kept .planes))
+StillAs p q = (q .state .size ≡ p .state .size) × (length (q .buffers .planes) ≡ length (p .buffers .planes))
 
-put-still : (r : ChangeRead) (p : Plate) → StillAs p (leftBy (putBy r (p .state) (p .kept)))
+put-still : (r : ChangeRead) (p : Plate) → StillAs p (leftBy (putBy r (p .state) (p .buffers)))
 unfolding putBy changed
 put-still (NoChange f) p = (refl, refl)
-put-still (ToChange c) p = (refl, length-exchanged (p .state .size) (c .place) (c .old) (c .new) (p .kept .planes))
+put-still (ToChange c) p = (refl, length-exchanged (p .state .size) (c .place) (c .old) (c .new) (p .buffers .planes))
 
-undo-still : (r : ChangeRead) (p : Plate) → StillAs p (leftBy (undoBy r (p .state) (p .kept)))
+undo-still : (r : ChangeRead) (p : Plate) → StillAs p (leftBy (undoBy r (p .state) (p .buffers)))
 unfolding undoBy changed
 undo-still (NoChange f) p = (refl, refl)
-undo-still (ToChange c) p = (refl, length-exchanged (p .state .size) (c .place) (c .old) (c .new) (p .kept .planes))
+undo-still (ToChange c) p = (refl, length-exchanged (p .state .size) (c .place) (c .old) (c .new) (p .buffers .planes))
 
-paint-still : (p : Painting) (d : Dab) → StillAs (p .plate) (paint p d .plate)
+paint-still : (p : Painting) (d : KeptCall) → StillAs (p .plate) (paint p d .plate)
 unfolding paint putKeptCall putKeptBy undoKeptCall undoKeptBy
-paint-still p (dab x y v a s r) = put-still _ (p .plate)
-paint-still p stepBack = undo-still _ (p .plate)
+paint-still p (keptPut x y v a s r) = put-still _ (p .plate)
+paint-still p keptUndo = undo-still _ (p .plate)
 
-paints-still : (p : Painting) (dabs : List Dab) → StillAs (p .plate) (paintAll p dabs .plate)
+paints-still : (p : Painting) (changes : List KeptCall) → StillAs (p .plate) (paintAll p changes .plate)
 unfolding paintAll
 paints-still p [] = (refl, refl)
-paints-still p (d ∷ dabs) =
+paints-still p (d ∷ changes) =
     let first = paint-still p d in
-    let rest = paints-still (paint p d) dabs in
+    let rest = paints-still (paint p d) changes in
     (rest .0 ∙ first .0, rest .1 ∙ first .1)
 
 -- one call keeps it so
-paint-canvas : (p : Painting) (d : Dab) → Fresh p
-    → paint p d .kept ≡ canvasOf (p .plate .state .size) (paint p d .plate .kept .planes)
+paint-canvas : (p : Painting) (d : KeptCall) → Fresh p
+    → paint p d .canvas ≡ canvasOf (p .plate .state .size) (paint p d .plate .buffers .planes)
 unfolding paint
-paint-canvas p (dab x y v a s r) e =
-    rw e (put-fresh (p .plate .state) (ask x y v (a .code) s (r .code)) (p .plate .kept) (a .small))
-paint-canvas p stepBack e = rw e (undo-fresh (p .plate .state) (p .plate .kept))
+paint-canvas p (keptPut x y v a s r) e =
+    rw e (put-fresh (p .plate .state) (ask x y v (a .code) s (r .code)) (p .plate .buffers) (a .small))
+paint-canvas p keptUndo e = rw e (undo-fresh (p .plate .state) (p .plate .buffers))
 
-paint-fresh : (p : Painting) (d : Dab) → Fresh p → Fresh (paint p d)
-paint-fresh p d e = paint-canvas p d e ∙ ap (λ (z : Size). canvasOf z (paint p d .plate .kept .planes)) (sym (paint-still p d .0))
+paint-fresh : (p : Painting) (d : KeptCall) → Fresh p → Fresh (paint p d)
+paint-fresh p d e = paint-canvas p d e ∙ ap (λ (z : Size). canvasOf z (paint p d .plate .buffers .planes)) (sym (paint-still p d .0))
 
 -- and so does a list of them
-paints-kept : (p : Painting) (dabs : List Dab) → Fresh p → Fresh (paintAll p dabs)
+paints-kept : (p : Painting) (changes : List KeptCall) → Fresh p → Fresh (paintAll p changes)
 unfolding paintAll
 paints-kept p [] e = e
-paints-kept p (d ∷ dabs) e = paints-kept (paint p d) dabs (paint-fresh p d e)
+paints-kept p (d ∷ changes) e = paints-kept (paint p d) changes (paint-fresh p d e)
 
 -- a show's answer is that of its check
 check-shown : (o : Outcome) (s : State) (planes : List ℕ) (v : Views) → showBy o s planes v .answer .outcome ≡ o
@@ -134,11 +134,11 @@ kept-lawful s planes v sums e = sizes-passed (s .size) _ (sym (check-shown _ s p
 
 -- a painting begins with what is the plate's
 shown-fresh : (p : Plate) (v : Views) (sums : List ℕ) →
-    let first = showKeptCall (p .state) (p .kept .planes) v sums in
+    let first = showKeptCall (p .state) (p .buffers .planes) v sums in
     first .call .answer .outcome ≡ Accepted → Fresh (shownPainting p first)
 shown-fresh p v sums e =
-    let first = kept-shown (p .state) (p .kept .planes) v sums e in
-    first .1 ∙ ap (λ (s : State). canvasOf (s .size) (p .kept .planes)) (sym (first .0))
+    let first = kept-shown (p .state) (p .buffers .planes) v sums e in
+    first .1 ∙ ap (λ (s : State). canvasOf (s .size) (p .buffers .planes)) (sym (first .0))
 
 -- the check goes by the plate's size and by lengths alone
 same-check : (s s' : State) → s' .size ≡ s .size → (planes scratch values mattes sums : ℕ)
@@ -148,23 +148,23 @@ same-check s s' e planes scratch values mattes sums = rw e
 
 -- so on a plate of the same size, with as many cells, a show that is lent as much has the same answer
 same-answer : (p q : Plate) (v v' : Views) (sums sums' : List ℕ) → StillAs p q → AsMuch v v' sums sums'
-    → showKeptCall (q .state) (q .kept .planes) v' sums' .call .answer .outcome
-    ≡ showKeptCall (p .state) (p .kept .planes) v sums .call .answer .outcome
+    → showKeptCall (q .state) (q .buffers .planes) v' sums' .call .answer .outcome
+    ≡ showKeptCall (p .state) (p .buffers .planes) v sums .call .answer .outcome
 unfolding showKeptCall showKeptBy
 same-answer p q v v' sums sums' still much =
-    check-shown _ (q .state) (q .kept .planes) v'
+    check-shown _ (q .state) (q .buffers .planes) v'
     ∙ rw (still .1, much .of-scratch, much .of-values, much .of-mattes, much .of-sums)
     (same-check (p .state) (q .state) (still .0) _ _ _ _ _)
-    ∙ sym (check-shown _ (p .state) (p .kept .planes) v)
+    ∙ sym (check-shown _ (p .state) (p .buffers .planes) v)
 
 pub paints-fresh : PaintsFresh
-paints-fresh p v sums dabs e v' sums' much =
-    let start = shownPainting p (showKeptCall (p .state) (p .kept .planes) v sums) in
-    let end = paintAll start dabs in
-    let size = ap (λ (s : State). s .size) (kept-shown (p .state) (p .kept .planes) v sums e .0) in
-    let still = paints-still start dabs in
+paints-fresh p v sums changes e v' sums' much =
+    let start = shownPainting p (showKeptCall (p .state) (p .buffers .planes) v sums) in
+    let end = paintAll start changes in
+    let size = ap (λ (s : State). s .size) (kept-shown (p .state) (p .buffers .planes) v sums e .0) in
+    let still = paints-still start changes in
     let ok = same-answer p (end .plate) v v' sums sums' (still .0 ∙ size, still .1) much ∙ e in
-    (ok, paints-kept start dabs (shown-fresh p v sums e) ∙ sym (kept-shown _ _ v' sums' ok .1))
+    (ok, paints-kept start changes (shown-fresh p v sums e) ∙ sym (kept-shown _ _ v' sums' ok .1))
 
 -- THE FIRST FORMS
 -- sums and pictures of a plate have the lengths that are asked for
@@ -180,24 +180,24 @@ canvas-accepted z planes law =
         ∙ omega (arith, length-listTo (sumAt z planes 0) (places z), length-listTo (sumAt z planes planesEach) (places z))
 
 fresh-accepted : (p : Painting) → LawfulSize (p .plate .state .size) → Fresh p
-    → canvasFirst (p .plate .state .size) (p .kept) ≡ Accepted
-fresh-accepted p law e = rw e (canvas-accepted (p .plate .state .size) (p .plate .kept .planes) law)
+    → canvasFirst (p .plate .state .size) (p .canvas) ≡ Accepted
+fresh-accepted p law e = rw e (canvas-accepted (p .plate .state .size) (p .plate .buffers .planes) law)
 
 -- so on a lawful plate a put and an undo of the second form leave the plate that those of the first form leave
-paint-step : (p : Painting) (d : Dab) → LawfulSize (p .plate .state .size) → Fresh p
+paint-step : (p : Painting) (d : KeptCall) → LawfulSize (p .plate .state .size) → Fresh p
     → paint p d .plate ≡ plateStep (p .plate) (firstForm d) .plate
 unfolding paint plateStep putKeptCall putKeptBy putCall undoKeptCall undoKeptBy undoCall keptRead
-paint-step p (dab x y v a s r) law e = rw (fresh-accepted p law e)
-paint-step p stepBack law e = rw (fresh-accepted p law e)
+paint-step p (keptPut x y v a s r) law e = rw (fresh-accepted p law e)
+paint-step p keptUndo law e = rw (fresh-accepted p law e)
 
 -- and so do lists of them
-paint-plates : (p : Painting) (dabs : List Dab) → LawfulSize (p .plate .state .size) → Fresh p
-    → paintAll p dabs .plate ≡ plateAfter (p .plate) (map firstForm dabs)
+paint-plates : (p : Painting) (changes : List KeptCall) → LawfulSize (p .plate .state .size) → Fresh p
+    → paintAll p changes .plate ≡ plateAfter (p .plate) (map firstForm changes)
 unfolding paintAll plateAfter
 paint-plates p [] law e = refl
-paint-plates p (d ∷ dabs) law e =
-    paint-plates (paint p d) dabs (rw (paint-still p d .0) law) (paint-fresh p d e)
-    ∙ ap (λ (q : Plate). plateAfter q (map firstForm dabs)) (paint-step p d law e)
+paint-plates p (d ∷ changes) law e =
+    paint-plates (paint p d) changes (rw (paint-still p d .0) law) (paint-fresh p d e)
+    ∙ ap (λ (q : Plate). plateAfter q (map firstForm changes)) (paint-step p d law e)
 
 -- one list of calls after another
 after-append : (p : Plate) (calls more : List Call) → plateAfter p (calls ++ more) ≡ plateAfter (plateAfter p calls) more
@@ -207,11 +207,11 @@ after-append p (c ∷ calls) more = after-append (plateStep p c .plate) calls mo
 
 -- PLAIN SPREADING
 -- the pictures of a plate of its own calls are plain
-pictures-plain : (z : Size) (l : Lent) (calls : List Call) → openCheck z (sizedAs l) ≡ Accepted →
+pictures-plain : (z : Size) (l : Lent) (calls : List Call) → openCheck z (lengthsOf l) ≡ Accepted →
     let p = plateAfter (leftBy (openCall z l)) calls in
     let grid = bookAfter (openBook z (length (l .log))) calls .grid in
-    (valuesOf (p .state .size) (p .kept .planes) ≡ plainValues z grid)
-    × (mattesOf (p .state .size) (p .kept .planes) ≡ plainMattes z grid)
+    (valuesOf (p .state .size) (p .buffers .planes) ≡ plainValues z grid)
+    × (mattesOf (p .state .size) (p .buffers .planes) ≡ plainMattes z grid)
 pictures-plain z l calls e =
     let room = length (l .log) in
     let f = opened z l calls e in
@@ -219,18 +219,18 @@ pictures-plain z l calls e =
     (values-plain z room (f .planes) (f .grid) (f .pile) (f .kept), mattes-plain z room (f .planes) (f .grid) (f .pile) (f .kept))
 
 pub paints-plain : PaintsPlain
-paints-plain z l calls v sums dabs e ok =
+paints-plain z l calls v sums changes e ok =
     let new = leftBy (openCall z l) in
     let p = plateAfter new calls in
-    let start = shownPainting p (showKeptCall (p .state) (p .kept .planes) v sums) in
+    let start = shownPainting p (showKeptCall (p .state) (p .buffers .planes) v sums) in
     let fresh = shown-fresh p v sums ok in
     let same : start .plate ≡ p =
-    ap (λ (s : State). record { state = s; kept = p .kept }) (kept-shown (p .state) (p .kept .planes) v sums ok .0) in
-    let law : LawfulSize (start .plate .state .size) = rw same (kept-lawful (p .state) (p .kept .planes) v sums ok) in
-    let end : paintAll start dabs .plate ≡ plateAfter new (calls ++ map firstForm dabs) =
-    paint-plates start dabs law fresh
-    ∙ ap (λ (q : Plate). plateAfter q (map firstForm dabs)) same
-    ∙ sym (after-append new calls (map firstForm dabs)) in
-    let kept = paints-kept start dabs fresh ∙ ap (λ (q : Plate). canvasOf (q .state .size) (q .kept .planes)) end in
-    let plain = pictures-plain z l (calls ++ map firstForm dabs) e in
+    ap (λ (s : State). record { state = s; buffers = p .buffers }) (kept-shown (p .state) (p .buffers .planes) v sums ok .0) in
+    let law : LawfulSize (start .plate .state .size) = rw same (kept-lawful (p .state) (p .buffers .planes) v sums ok) in
+    let end : paintAll start changes .plate ≡ plateAfter new (calls ++ map firstForm changes) =
+    paint-plates start changes law fresh
+    ∙ ap (λ (q : Plate). plateAfter q (map firstForm changes)) same
+    ∙ sym (after-append new calls (map firstForm changes)) in
+    let kept = paints-kept start changes fresh ∙ ap (λ (q : Plate). canvasOf (q .state .size) (q .buffers .planes)) end in
+    let plain = pictures-plain z l (calls ++ map firstForm changes) e in
     (ap (λ (k : Canvas). k .values) kept ∙ plain .0, ap (λ (k : Canvas). k .mattes) kept ∙ plain .1)

@@ -7,7 +7,7 @@ use native.Mathlib.Omega.{arith}
 use lib.ListN.{length}
 use Rattle.kernels_model.specs.declared.shape.Shape.{Shape}
 use Rattle.kernels_model.specs.Shape.{shapeOf, countOf}
-use Rattle.kernels_model.specs.declared.lens.Lens.{Lens as LensOf}
+use Rattle.kernels_model.specs.declared.lens.Lens.{Lens}
 use Rattle.kernels_model.proofs.taps.ShapeNumbers.{count-few}
 use Rattle.plate_model.specs.Layout.{Size}
 use Rattle.plate_model.specs.Word.{Pixel, Entry}
@@ -15,7 +15,7 @@ use Rattle.plate_model.specs.Refusal.{Refusal, refusalNumber, Outcome, A
 use Rattle.plate_model.specs.Lent.{Ask, ask, Inputs, inputs, Views}
 use Rattle.plate_model.specs.Change.{askedPlace, askedPixel, knownShape}
 use Rattle.plate_model.specs.Plain.{pixelAt}
-use Rattle.plate_model.specs.Notebook.{Book, bookOf, Report, plain, bookPutBy, bookPut, bookUndoOf, bookUndo, bookFillBy, bookFill, bookShowBy, bookShow, Turn, bookKept, bookPutKept, bookUndoKept, bookShowKept}
+use Rattle.plate_model.specs.Notebook.{Book, bookOf, Report, plain, bookPutBy, bookPut, bookUndoOf, bookUndo, bookFillBy, bookFill, bookShowBy, bookShow, BookLeft, bookKept, bookPutKept, bookUndoKept, bookShowKept}
 use Rattle.plate_model.specs.Lists.{Byte, codes, Call, putIt, undoIt, fillIt, showIt, putKeptIt, undoKeptIt, showKeptIt, plateStep, bookStep, bookReports}
 use Rattle.plate_model.specs.Counts.{Few, CountOf, Counted, ListsCounted}
 use Rattle.plate_model.proofs.checks.Rows.{refusal-some}
@@ -78,7 +78,7 @@ unfolding bookUndoOf
 undo-few z room grid [] = record { if-accepted = λ e. absurd (omega arith); if-refused = λ d. refl }
 undo-few z room grid (e ∷ pile) = few (pixelAt grid (e .place) .shape) (e .pixel .shape) _ (told-accepted _)
 
-fill-none : (c : Outcome) (b : Book) (o : LensOf) (n : ℕ) (f : Inputs) → bookFillBy c b o n f .report .marks ≡ 0
+fill-none : (c : Outcome) (b : Book) (o : Lens) (n : ℕ) (f : Inputs) → bookFillBy c b o n f .report .marks ≡ 0
 unfolding bookFillBy
 fill-none Accepted b o n f = refl
 fill-none (Refused g) b o n f = refl
@@ -89,12 +89,12 @@ show-none Accepted b = refl
 show-none (Refused g) b = refl
 
 -- a second form counts as the first, and none where it is refused for its buffers
-kept-few : (o : Outcome) (b : Book) (t : Turn) → Few (t .report) → Few (bookKept o b t .report)
+kept-few : (o : Outcome) (b : Book) (t : BookLeft) → Few (t .report) → Few (bookKept o b t .report)
 unfolding bookKept
 kept-few Accepted b t h = h
 kept-few (Refused f) b t h = record { if-accepted = λ e. absurd (omega (arith, refusal-some f)); if-refused = λ d. refl }
 
-kept-none : (o : Outcome) (b : Book) (t : Turn) → t .report .marks ≡ 0 → bookKept o b t .report .marks ≡ 0
+kept-none : (o : Outcome) (b : Book) (t : BookLeft) → t .report .marks ≡ 0 → bookKept o b t .report .marks ≡ 0
 unfolding bookKept
 kept-none Accepted b t h = h
 kept-none (Refused f) b t h = refl

@@ -10,7 +10,7 @@ use Rattle.kernels_model.specs.Tap.{tap, area, shareFor, restFor, weight}
 use Rattle.kernels_model.specs.Rounding.{nearest, nearestEven, shownValue, shownMatte}
 use Rattle.plate_model.specs.Layout.{Size}
 use Rattle.plate_model.specs.Refusal.{Accepted, refuseIf, sizesCheck, lentCheck, placeCheck, shapeCheck, radiusCheck, askCheck, viewsCheck, openCheck}
-use Rattle.plate_model.specs.Lent.{Lent, lent, sizedAs, Views, views}
+use Rattle.plate_model.specs.Lent.{Lent, lent, lengthsOf, Views, views}
 use Rattle.plate_model.specs.Calls.{zeros, listTo, openCall}
 use Rattle.plate_model.specs.Plain.{plainSum, plainValues, plainMattes}
 use Rattle.plate_model.specs.Notebook.{openBook, both, Report, plain, bookPutBy, bookPut, bookUndoOf, bookUndo, bookShowBy, bookShow}
@@ -58,7 +58,7 @@ pub book-run : bookReports (openBook threeByOne 64) run ≡ runReports
 unfolding bookReports bookStep bookPut bookPutBy bookUndo bookUndoOf bookShow bookShowBy askCheck placeCheck shapeCheck radiusCheck refuseIf viewsCheck plainValues plainMattes plainSum listTo weight shareFor restFor area tap sum within same shownValue shownMatte nearest nearestEven
 book-run = refl
 
-open-accepted : openCheck threeByOne (sizedAs buffers) ≡ Accepted
+open-accepted : openCheck threeByOne (lengthsOf buffers) ≡ Accepted
 unfolding openCheck sizesCheck lentCheck refuseIf
 open-accepted = refl
 

@@ -6,7 +6,7 @@ use native.Mathlib.Omega.{arith}
 use native.Mathlib.Nat.{mod-lt, mul-comm, div-lt-iff-lt-mul}
 use borrow.Author.Tests.{lt-ltb, le-ltb, le-leb, lt-leb}
 use Rattle.kernels_model.specs.Fixed.{shapeCount}
-use Rattle.kernels_model.specs.declared.shape.Shape.{Shape as ShapeOf}
+use Rattle.kernels_model.specs.declared.shape.Shape.{Shape}
 use Rattle.kernels_model.specs.declared.shape.ShapeRead.the-variants.{Known}
 use Rattle.kernels_model.specs.Shape.{shapeOf, topUnder}
 use Rattle.kernels_model.proofs.numbers.Choices.{by-lt}
@@ -28,7 +28,7 @@ abbrev pub WordTold : ℕ → ℕ → Type 0
 WordTold R w = (WordBroken R w × (readWord R w ≡ Broken)) ⊎ WordRead R w
 
 -- a word of 32 bits that keeps a shape
-word-shaped : (R w : ℕ) (s : ShapeOf) → w < 2 ^ wordBits → w / 2 ^ 20 % 16 < shapeCount → shapeOf (w / 2 ^ 20 % 16) ≡ Known s
+word-shaped : (R w : ℕ) (s : Shape) → w < 2 ^ wordBits → w / 2 ^ 20 % 16 < shapeCount → shapeOf (w / 2 ^ 20 % 16) ≡ Known s
     → WordTold R w
 unfolding WordBroken RadiusAbove readWord
 word-shaped R w s low few e =

@@ -12,7 +12,7 @@ use Rattle.plate_model.specs.declared.state.Outcome.{Outcome}
 use Rattle.plate_model.specs.declared.state.Outcome.the-variants.{Accepted, Refused}
 use Rattle.plate_model.specs.declared.state.Refusal.the-variants.{Sizes as BadSizes}
 use Rattle.plate_model.specs.Refusal.{refuseIf, sizesCheck, lentCheck, openCheck}
-use Rattle.plate_model.specs.Lent.{stateOf, sizedAs}
+use Rattle.plate_model.specs.Lent.{stateOf, lengthsOf}
 use Rattle.plate_model.specs.Calls.{zeros, openBy, openCall, putCall, undoCall}
 use Rattle.plate_model.specs.Word.{empty}
 use Rattle.plate_model.specs.Lists.{Plate, leftBy}
@@ -37,7 +37,7 @@ opening k z b = serving (openedBy k) (ToOpen z) b
 module _ (k : ℕ) (z : Size) (b : Buffers) (s : RightLengths b) where
   open-sizes : ((next : Outcome) → sizesCheck z next ≡ Refused BadSizes) → Agrees k (opens z) (opening k z b)
   unfolding opens requested requestCall openCall openBy openCheck openedBy
-  open-sizes bad = rw (bad Accepted, bad (lentCheck z (sizedAs (lentOf z b)) Accepted)) (refl, refl)
+  open-sizes bad = rw (bad Accepted, bad (lentCheck z (lengthsOf (lentOf z b)) Accepted)) (refl, refl)
 
   open-cells : ((next : Outcome) → sizesCheck z next ≡ next) → cellsTop < padded z → Agrees k (opens z) (opening k z b)
   unfolding opens requested requestCall openCall openBy openCheck openedBy lentCheck frontOf refuseIf
@@ -45,20 +45,20 @@ module _ (k : ℕ) (z : Size) (b : Buffers) (s : RightLengths b) where
       let none : cellsOf z ≡ 0 = rw (lt-ltb cellsTop (padded z) h) in
       rw (
         fine Accepted,
-        fine (lentCheck z (sizedAs (lentOf z b)) Accepted),
+        fine (lentCheck z (lengthsOf (lentOf z b)) Accepted),
         lt-ltb cellsTop (padded z) h,
         ne-eqb 0 (planesInAll * padded z) (omega arith),
       )
       (refl, refl)
 
-  open-passes : ((next : Outcome) → sizesCheck z next ≡ next) → padded z ≤ cellsTop → openCheck z (sizedAs (lentOf z b)) ≡ Accepted
+  open-passes : ((next : Outcome) → sizesCheck z next ≡ next) → padded z ≤ cellsTop → openCheck z (lengthsOf (lentOf z b)) ≡ Accepted
   unfolding openCheck frontOf
   open-passes fine h =
       let cells = has-room z (padded z) h in
       let pixels = has-room z (places z) h in
       let small = places-few z in
-      fine (lentCheck z (sizedAs (lentOf z b)) Accepted)
-      ∙ lent-pass z (sizedAs (lentOf z b)) Accepted
+      fine (lentCheck z (lengthsOf (lentOf z b)) Accepted)
+      ∙ lent-pass z (lengthsOf (lentOf z b)) Accepted
       (record {
         planes-are =
             part-length (planesOf z) (b .planes) (omega (arith, s .planes-are)) ∙ ap (λ (n : ℕ). planesInAll * n) cells;
@@ -82,7 +82,7 @@ module _ (k : ℕ) (z : Size) (b : Buffers) (s : RightLengths b) where
       let kept : Mirrored z logRoom planes grid [] = rw log-long at (open-kept z l e) in
       let state : openCall z l .answer .state ≡ stateOf z 0 = ap (λ (p : Plate). p .state) mirrors in
       rw (fine Accepted, le-ltb cellsTop (padded z) h, accepted, state)
-      (refl, open-again z b (openCall z l .kept) planes grid [] h s (ap (λ (p : Plate). p .kept) mirrors) kept)
+      (refl, open-again z b (openCall z l .buffers) planes grid [] h s (ap (λ (p : Plate). p .buffers) mirrors) kept)
 
   pub open-agrees : Agrees k (opens z) (opening k z b)
   open-agrees =
@@ -94,21 +94,21 @@ module _ (k : ℕ) (z : Size) (b : Buffers) (s : RightLengths b) where
 pub acts-agree : (k : ℕ) (s : Stage) (b : Buffers) (d : Desk) (r : Record) → Stands s b d → LawfulRecord r
     → Agrees k (act k d r) (recordOn k s r b)
 unfolding act recordOn requested requestCall
-acts-agree k s b d (Open a) (at-closed sized) h = open-agrees k _ b sized
-acts-agree k s b d (Put p) (at-closed sized) h = (refl, refl)
-acts-agree k s b d (NoShape p) (at-closed sized) h = (refl, refl)
-acts-agree k s b d Undo (at-closed sized) h = (refl, refl)
-acts-agree k s b d Show (at-closed sized) h = (refl, refl)
-acts-agree k s b d (Open a) (at-open z planes grid pile sized small kept e) h = (refl, refl)
-acts-agree k s b d (Put p) (at-open z planes grid pile sized small kept e) h =
+acts-agree k s b d (Open a) (at-closed lentLengths) h = open-agrees k _ b lentLengths
+acts-agree k s b d (Put p) (at-closed lentLengths) h = (refl, refl)
+acts-agree k s b d (NoShape p) (at-closed lentLengths) h = (refl, refl)
+acts-agree k s b d Undo (at-closed lentLengths) h = (refl, refl)
+acts-agree k s b d Show (at-closed lentLengths) h = (refl, refl)
+acts-agree k s b d (Open a) (at-open z planes grid pile lentLengths small kept e) h = (refl, refl)
+acts-agree k s b d (Put p) (at-open z planes grid pile lentLengths small kept e) h =
     let left = putCall (stateOf z (length pile)) (strokeAsk p) (heldBy logRoom planes grid pile) in
-    rw e (answered-agrees k z b grid pile left _ small sized (put-agrees z logRoom planes grid pile kept (strokeAsk p) h))
-acts-agree k s b d (NoShape p) (at-open z planes grid pile sized small kept e) h =
+    rw e (answered-agrees k z b grid pile left _ small lentLengths (put-agrees z logRoom planes grid pile kept (strokeAsk p) h))
+acts-agree k s b d (NoShape p) (at-open z planes grid pile lentLengths small kept e) h =
     let left = putCall (stateOf z (length pile)) (shapelessAsk p) (heldBy logRoom planes grid pile) in
     rw e
-    (answered-agrees k z b grid pile left _ small sized
+    (answered-agrees k z b grid pile left _ small lentLengths
     (put-agrees z logRoom planes grid pile kept (shapelessAsk p) (omega arith)))
-acts-agree k s b d Undo (at-open z planes grid pile sized small kept e) h =
+acts-agree k s b d Undo (at-open z planes grid pile lentLengths small kept e) h =
     let left = undoCall (stateOf z (length pile)) (heldBy logRoom planes grid pile) in
-    rw e (answered-agrees k z b grid pile left _ small sized (undo-agrees z logRoom planes grid pile kept))
-acts-agree k s b d Show (at-open z planes grid pile sized small kept e) h = show-agree k z planes grid pile b small sized kept e
+    rw e (answered-agrees k z b grid pile left _ small lentLengths (undo-agrees z logRoom planes grid pile kept))
+acts-agree k s b d Show (at-open z planes grid pile lentLengths small kept e) h = show-agree k z planes grid pile b small lentLengths kept e

@@ -17,7 +17,7 @@ use Rattle.plate_model.specs.declared.state.Outcome.the-variants.{Accepted, Ref
 use Rattle.plate_model.specs.Lent.{stateOf, Lent, Views}
 use Rattle.plate_model.specs.Refusal.{refusalNumber, outcomeNumber, lengthCheck, viewsCheck, showCheck}
 use Rattle.plate_model.specs.Calls.{Left, Shown, sumAt, showBy, showCall}
-use Rattle.plate_model.specs.Notebook.{bookOf, plain, Turn, bookShowBy, bookShow}
+use Rattle.plate_model.specs.Notebook.{bookOf, plain, BookLeft, bookShowBy, bookShow}
 use Rattle.plate_model.specs.Lists.{Plate, stepOf, shownTo, seenBy}
 use Rattle.plate_model.specs.Table.{LawfulSize}
 use Rattle.plate_model.proofs.checks.Passed.{length-pass, sizes-pass}
@@ -49,7 +49,7 @@ abbrev pub lentBack : Size → Lent → Buffers → Buffers
 lentBack z l b = holding b (frontBack z l (plateOf b))
 
 abbrev pub answeredOn : ℕ → Size → Left → Buffers → Did
-answeredOn k z l b = did (answeredBy k (l .answer)) (lentBack z (l .kept) b)
+answeredOn k z l b = did (answeredBy k (l .answer)) (lentBack z (l .buffers) b)
 
 -- THE INVARIANT: what is lent of the buffers is the plate that mirrors the notebook
 pub data Stands : Stage → Buffers → Desk → Type 0 where
@@ -111,13 +111,13 @@ plain-text : (k : ℕ) (z : Size) (n m : ℕ) → answerText k n ≡ reportText 
 unfolding reportText pictureText
 plain-text k z n m = sym (append-nil (answerText k n))
 
-pub answered-agrees : (k : ℕ) (z : Size) (b : Buffers) (grid : List Pixel) (pile : List Entry) (l : Left) (t : Turn)
+pub answered-agrees : (k : ℕ) (z : Size) (b : Buffers) (grid : List Pixel) (pile : List Entry) (l : Left) (t : BookLeft)
     → padded z ≤ cellsTop → RightLengths b
     → Agree z logRoom (stepOf l) t → Agrees k (noted k (bookOf z logRoom grid pile) t) (answeredOn k z l b)
 answered-agrees k z b grid pile l t h s a = (
   plain-text k z (outcomeNumber (l .answer .outcome)) (l .answer .marks) ∙ ap (reportText k z) (a .same-report),
   rw (ap (λ (p : Plate). p .state) (a .same-plate), a .same-book)
-      (open-again z b (l .kept) (a .planes) (a .grid) (a .pile) h s (ap (λ (p : Plate). p .kept) (a .same-plate)) (a .kept)),
+      (open-again z b (l .buffers) (a .planes) (a .grid) (a .pile) h s (ap (λ (p : Plate). p .buffers) (a .same-plate)) (a .kept)),
 )
 
 -- SHOW
@@ -193,7 +193,7 @@ unfolding shownText reportText pictureText seenBy answerText
 seen-text k z Accepted n v = refl
 seen-text k z (Refused f) n v = sym (append-nil (answerText k (refusalNumber f)))
 
-show-stands : (z : Size) (b : Buffers) (v : Shown) (planes : List ℕ) (grid : List Pixel) (pile : List Entry) (t : Turn)
+show-stands : (z : Size) (b : Buffers) (v : Shown) (planes : List ℕ) (grid : List Pixel) (pile : List Entry) (t : BookLeft)
     → padded z ≤ cellsTop
     → RightLengths (viewsBack z (v .seen) b) → lentOf z b ≡ heldBy logRoom planes grid pile
     → Agree z logRoom (shownTo (mirror z logRoom planes grid pile) v) t
@@ -201,7 +201,7 @@ show-stands : (z : Size) (b : Buffers) (v : Shown) (planes : List ℕ) (grid : L
 unfolding frontOf viewsBack
 show-stands z b v planes grid pile t h s e a =
     rw (ap (λ (p : Plate). p .state) (a .same-plate), a .same-book)
-    (at-open z (a .planes) (a .grid) (a .pile) s h (a .kept) (e ∙ ap (λ (p : Plate). p .kept) (a .same-plate)))
+    (at-open z (a .planes) (a .grid) (a .pile) s h (a .kept) (e ∙ ap (λ (p : Plate). p .buffers) (a .same-plate)))
 
 pub show-agree : (k : ℕ) (z : Size) (planes : List ℕ) (grid : List Pixel) (pile : List Entry) (b : Buffers)
     → padded z ≤ cellsTop → RightLengths b
@@ -214,10 +214,10 @@ show-agree k z planes grid pile b h s kept e =
     let fit = views-fit z b h s in
     let part : take (planesOf z) (b .planes) ≡ planes = ap (λ (l : Lent). l .planes) e in
     let seen = showCall (stateOf z (length pile)) planes v in
-    let turn : bookShow (bookOf z logRoom grid pile) v ≡ bookShowBy Accepted (bookOf z logRoom grid pile) =
+    let iteration : bookShow (bookOf z logRoom grid pile) v ≡ bookShowBy Accepted (bookOf z logRoom grid pile) =
     ap (λ (o : Outcome). bookShowBy o (bookOf z logRoom grid pile)) fit in
     let a : Agree z logRoom (shownTo (mirror z logRoom planes grid pile) seen) (bookShowBy Accepted (bookOf z logRoom grid pile)) =
-    rw turn at (show-agrees z logRoom planes grid pile kept v) in
+    rw iteration at (show-agrees z logRoom planes grid pile kept v) in
     let lengths : RightLengths (viewsBack z (seen .seen) b) =
     rw (shown-by z (length pile) planes v (kept .lawful) (kept .cells-count) fit) (shown-sized z (length pile) planes b h s) in
     rw part (

@@ -5,8 +5,8 @@ use denote.Ref.{now}
 use lib.ListN.{length, getD}
 use borrow.Author.Needs.{needs}
 use Rattle.kernels_model.proofs.taps.ShapeNumbers.{shape-read}
-use Rattle.plate_model.specs.declared.lent.Sized.{Sized}
-use Rattle.plate_model.specs.Lent.{sized}
+use Rattle.plate_model.specs.declared.lent.LentLengths.{LentLengths}
+use Rattle.plate_model.specs.Lent.{lentLengths}
 use Rattle.plate_model.specs.declared.word.Unpacked.the-variants.{Whole}
 use Rattle.plate_model.specs.Word.{readWord}
 use Rattle.plate_model.specs.declared.state.Outcome.the-variants.{Accepted}
@@ -21,8 +21,8 @@ use Rattle.plate.proofs.change.read_put.Tie as tie
 abbrev start : tie.After-enum-told → tie.Start
 start c = c .before .before .before .before
 
-abbrev held : tie.Start → Sized
-held s = sized (s .args .planes) (length (now (s .args .pixels))) (s .args .log)
+abbrev held : tie.Start → LentLengths
+held s = lentLengths (s .args .planes) (length (now (s .args .pixels))) (s .args .log)
 
 -- the check passed
 checked : (c : tie.After-enum-told) → let s = start c in putCheck (s .args .state) (s .args .ask) (held s) ≡ Accepted

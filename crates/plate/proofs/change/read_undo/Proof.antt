@@ -6,8 +6,8 @@ use denote.Ref.{now}
 use lib.ListN.{length, getD}
 use borrow.Author.Needs.{needs}
 use Rattle.plate_model.specs.Layout.{places}
-use Rattle.plate_model.specs.declared.lent.Sized.{Sized}
-use Rattle.plate_model.specs.Lent.{sized}
+use Rattle.plate_model.specs.declared.lent.LentLengths.{LentLengths}
+use Rattle.plate_model.specs.Lent.{lentLengths}
 use Rattle.plate_model.specs.declared.word.Unpacked.the-variants.{Whole}
 use Rattle.plate_model.specs.declared.word.EntryRead.the-variants.{Logged}
 use Rattle.plate_model.specs.Word.{readWord, readEntry}
@@ -23,8 +23,8 @@ use Rattle.plate.proofs.change.read_undo.Tie as tie
 abbrev start : tie.After-enum-told → tie.Start
 start c = c .before .before .before .before .before
 
-abbrev held : tie.Start → Sized
-held s = sized (s .args .planes) (length (now (s .args .pixels))) (length (now (s .args .log)))
+abbrev held : tie.Start → LentLengths
+held s = lentLengths (s .args .planes) (length (now (s .args .pixels))) (length (now (s .args .log)))
 
 -- the check passed
 checked : (c : tie.After-enum-told) → let s = start c in undoCheck (s .args .state) (held s) ≡ Accepted

@@ -6,7 +6,7 @@ use Rattle.plate_model.specs.declared.state.Outcome.{Outcome}
 use Rattle.plate_model.specs.declared.state.Outcome.the-variants.{Accepted}
 use Rattle.plate_model.specs.Refusal.{refuseIf, sizesCheck, lentCheck, inputsCheck, openCheck}
 use Rattle.plate_model.proofs.checks.Passed.{sizes-passed}
-use Rattle.plate.proofs.checks.Chains.{open-before, inputs-before}
+use Rattle.plate.proofs.laws.checks.Chains.{open-before, inputs-before}
 use Rattle.plate.specs.Filling.{fillLengths}
 use Rattle.plate.proofs.check.check_fill.Statement.{statement}
 use Rattle.plate.proofs.check.check_fill.Tie as tie

@@ -4,16 +4,16 @@ use borrow.Author.Needs.{needs}
 use Rattle.plate_model.specs.declared.state.Outcome.the-variants.{Accepted}
 use Rattle.plate_model.specs.Refusal.{openCheck}
 use Rattle.plate_model.proofs.checks.Passed.{sizes-passed}
-use Rattle.plate.proofs.checks.Chains.{sizes-before}
+use Rattle.plate.proofs.laws.checks.Chains.{sizes-before}
 use Rattle.plate.proofs.check.check_open.Statement.{statement}
 use Rattle.plate.proofs.check.check_open.Tie as tie
-use Rattle.plate_model.specs.Lent.{sized}
+use Rattle.plate_model.specs.Lent.{lentLengths}
 
 returns : tie.Need-returns
 unfolding openCheck
 returns c =
-    let sized = c .before .before in
-    rw (sizes-before (sized .before .args .size) Accepted _, ← sized .check-sizes .ensures, c .enum-told2 .given .1)
+    let lentLengths = c .before .before in
+    rw (sizes-before (lentLengths .before .args .size) Accepted _, ← lentLengths .check-sizes .ensures, c .enum-told2 .given .1)
 
 check-lent-requires : tie.Need-check-lent-requires
 check-lent-requires c κs =
@@ -22,10 +22,10 @@ check-lent-requires c κs =
 returns-2 : tie.Need-returns-2
 unfolding openCheck
 returns-2 c =
-    let sized = c .before .before .before in
+    let lentLengths = c .before .before .before in
     rw (
-      sizes-before (sized .before .args .size) Accepted _,
-      ← sized .check-sizes .ensures,
+      sizes-before (lentLengths .before .args .size) Accepted _,
+      ← lentLengths .check-sizes .ensures,
       c .before .enum-told .given .1,
     )
     (c .check-lent .ensures)

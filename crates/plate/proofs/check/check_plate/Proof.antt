@@ -1,7 +1,7 @@
 -- The refusal of an open comes first, then the log count's.
 use borrow.Author.Needs.{needs}
 use Rattle.plate_model.specs.Refusal.{refuseIf, plateCheck}
-use Rattle.plate.proofs.checks.Chains.{open-before}
+use Rattle.plate.proofs.laws.checks.Chains.{open-before}
 use Rattle.plate_model.proofs.checks.Conditions.{tests}
 use Rattle.plate.proofs.check.check_plate.Statement.{statement}
 use Rattle.plate.proofs.check.check_plate.Tie as tie

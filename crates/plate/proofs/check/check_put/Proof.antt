@@ -1,7 +1,7 @@
 -- The plate's refusal comes first; past it what the arguments' check says is the rest.
 use borrow.Author.Needs.{needs}
 use Rattle.plate_model.specs.Refusal.{putCheck}
-use Rattle.plate.proofs.checks.Chains.{plate-before}
+use Rattle.plate.proofs.laws.checks.Chains.{plate-before}
 use Rattle.plate.proofs.check.check_put.Statement.{statement}
 use Rattle.plate.proofs.check.check_put.Tie as tie
 

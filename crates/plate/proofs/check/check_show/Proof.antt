@@ -6,7 +6,7 @@ use Rattle.plate_model.specs.declared.state.Outcome.the-variants.{Accepted}
 use Rattle.plate_model.specs.Refusal.{totalCheck, viewsCheck, showCheck, refuseIf}
 use Rattle.plate_model.proofs.checks.Conditions.{tests}
 use Rattle.plate_model.proofs.checks.Passed.{sizes-passed}
-use Rattle.plate.proofs.checks.Chains.{total-before}
+use Rattle.plate.proofs.laws.checks.Chains.{total-before}
 use Rattle.plate.proofs.check.check_show.Statement.{statement}
 use Rattle.plate.proofs.check.check_show.Tie as tie
 

@@ -8,7 +8,7 @@ use Rattle.plate_model.specs.Table.{LawfulSize}
 use Rattle.plate_model.proofs.numbers.Extents.{places-small}
 use Rattle.plate_model.proofs.checks.Conditions.{tests}
 use Rattle.plate_model.proofs.checks.Passed.{sizes-passed, sizes-pass, length-pass}
-use Rattle.plate.proofs.checks.Chains.{sizes-before}
+use Rattle.plate.proofs.laws.checks.Chains.{sizes-before}
 use Rattle.plate.proofs.check.check_show_kept.Statement.{statement}
 use Rattle.plate.proofs.check.check_show_kept.Tie as tie
 
@@ -22,8 +22,8 @@ lawful c = sizes-passed _ Accepted (sym (c .before .before .check-sizes .ensures
 returns : tie.Need-returns
 unfolding showKeptCheck
 returns c =
-    let sized = c .before .before in
-    rw (sizes-before (sized .before .before .args .state .size) Accepted _, ← sized .check-sizes .ensures, c .enum-told2 .given .1)
+    let lentLengths = c .before .before in
+    rw (sizes-before (lentLengths .before .before .args .state .size) Accepted _, ← lentLengths .check-sizes .ensures, c .enum-told2 .given .1)
 
 mul-places : tie.Need-mul-places
 mul-places c =

@@ -9,7 +9,7 @@ use Rattle.plate_model.specs.Table.{LawfulSize}
 use Rattle.plate.specs.Frame.{Frame}
 use Rattle.plate_model.proofs.checks.Conditions.{tests}
 use Rattle.plate_model.proofs.checks.Passed.{sizes-passed, sizes-pass}
-use Rattle.plate.proofs.checks.Chains.{sizes-before}
+use Rattle.plate.proofs.laws.checks.Chains.{sizes-before}
 use Rattle.plate_model.proofs.numbers.Extents.{padded-small}
 use Rattle.plate.proofs.check.check_total.Statement.{statement}
 use Rattle.plate.proofs.check.check_total.Tie as tie
@@ -28,8 +28,8 @@ cells c = ap (λ (f : Frame). f .padded) (c .frame-of .ensures)
 returns : tie.Need-returns
 unfolding totalCheck
 returns c =
-    let sized = c .before .before in
-    rw (sizes-before (sized .before .args .size) Accepted _, ← sized .check-sizes .ensures, c .enum-told2 .given .1)
+    let lentLengths = c .before .before in
+    rw (sizes-before (lentLengths .before .args .size) Accepted _, ← lentLengths .check-sizes .ensures, c .enum-told2 .given .1)
 
 frame-of-requires : tie.Need-frame-of-requires
 frame-of-requires c κs = lawful c

@@ -1,7 +1,7 @@
 -- The plate's refusal comes first; past it the test is the definition's.
 use borrow.Author.Needs.{needs}
 use Rattle.plate_model.specs.Refusal.{refuseIf, undoCheck}
-use Rattle.plate.proofs.checks.Chains.{plate-before}
+use Rattle.plate.proofs.laws.checks.Chains.{plate-before}
 use Rattle.plate_model.proofs.checks.Conditions.{tests}
 use Rattle.plate.proofs.check.check_undo.Statement.{statement}
 use Rattle.plate.proofs.check.check_undo.Tie as tie

@@ -1,4 +1,4 @@
--- After i turns the first i cells are 0 and the rest are as they were; after the last turn there is no rest.
+-- After i turns the first i cells are 0 and the rest are as they were; after the last iteration there is no rest.
 use mathlib.Core.Path.{_≡_, refl, _∙_}
 use mathlib.Core.List.{_++_, append-nil}
 use Prim.Native.Nat.{_-_, _≤_}
@@ -23,14 +23,14 @@ loop-holds c = (search needs, refl, refl, fill-none _ 0)
 
 loop-again : tie.Need-loop-again Inv-loop μ-loop
 loop-again c =
-    let turn = c .before .loop in
-    (omega arith, turn .inv .1, search needs, rw (turn .inv .3) (fill-more (turn .i) 0 _ (omega arith)))
+    let iteration = c .before .loop in
+    (omega arith, iteration .inv .1, search needs, rw (iteration .inv .3) (fill-more (iteration .i) 0 _ (omega arith)))
 
 returns : tie.Need-returns Inv-loop μ-loop
 returns c =
-    let turn = c .before .loop in
-    let done : turn .i ≡ length (now (c .before .before .args .cells)) = omega arith in
-    turn .inv .3 ∙ rw (done, drop-length) (append-nil _)
+    let iteration = c .before .loop in
+    let done : iteration .i ≡ length (now (c .before .before .args .cells)) = omega arith in
+    iteration .inv .3 ∙ rw (done, drop-length) (append-nil _)
 
 pub clear-spec : {M : Type 1} → statement M
 clear-spec =

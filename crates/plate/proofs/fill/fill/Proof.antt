@@ -1,9 +1,9 @@
 -- A refusal hands on what was read; else the layer that was read is laid, and the log is empty.
 use mathlib.Core.Path.{_≡_, refl, sym, _∙_}
 use borrow.Author.Needs.{needs}
-use Rattle.plate_model.specs.Lent.{Lent, lent, sizedAs, Inputs, inputs}
+use Rattle.plate_model.specs.Lent.{Lent, lent, lengthsOf, Inputs, inputs}
 use Rattle.plate.specs.Filling.{layerRead}
-use Rattle.plate.proofs.filling.Filling.{layer-refused, layer-ready, layer-filled}
+use Rattle.plate.proofs.laws.filling.Filling.{layer-refused, layer-ready, layer-filled}
 use Rattle.plate.proofs.fill.fill.Statement.{statement}
 use Rattle.plate.proofs.fill.fill.Tie as tie
 
@@ -20,7 +20,7 @@ held c = lent (c .args .planes .now) (c .args .pixels .now) (c .args .log .now)
 -- what was read
 reads : (c : tie.After-read-layer)
     → let s = entry c in
-    c .read-layer .result ≡ layerRead (s .args .state) (s .args .lens) (s .args .shape) (given s) (sizedAs (held s))
+    c .read-layer .result ≡ layerRead (s .args .state) (s .args .lens) (s .args .shape) (given s) (lengthsOf (held s))
 reads c = c .read-layer .ensures (entry c .args .opacities .now) refl
 
 refill-requires : tie.Need-refill-requires

@@ -5,23 +5,23 @@ use native.Mathlib.Omega.{arith}
 use lib.ListN.{length}
 use borrow.Author.Needs.{needs}
 use Rattle.plate_model.specs.Layout.{sumsInAll}
-use Rattle.plate.specs.Passes.{Picture}
+use Rattle.plate.specs.Passes.{Channel}
 use Rattle.plate.specs.Showing.{BothIn}
-use Rattle.plate.proofs.showing.BothPictures.{both-on}
-use Rattle.plate.proofs.showing.Image.{ready-both}
-use Rattle.plate.proofs.showing.Keeping.{all-kept}
+use Rattle.plate.proofs.laws.showing.BothChannels.{both-on}
+use Rattle.plate.proofs.laws.showing.Image.{ready-both}
+use Rattle.plate.proofs.laws.showing.Keeping.{all-kept}
 use Rattle.plate.proofs.kept.keep_all.Statement.{statement}
 use Rattle.plate.proofs.kept.keep_all.Tie as tie
 
-abbrev start : tie.After-light-picture → tie.Start
+abbrev start : tie.After-light-channel → tie.Start
 start c = c .before .before .before .before .before .before .before
 
--- both pictures' sums fit into the scratch
-fits : (c : tie.After-light-picture) → BothIn (c .light-picture .result) (start c .args .scratch .now) (start c .args .planes .now)
-fits c = ready-both _ _ _ _ (c .light-picture .ensures) (start c .pre .show .sums)
+-- both channels' sums fit into the scratch
+fits : (c : tie.After-light-channel) → BothIn (c .light-channel .result) (start c .args .scratch .now) (start c .args .planes .now)
+fits c = ready-both _ _ _ _ (c .light-channel .ensures) (start c .pre .show .sums)
 
 -- back from the rows above the image, and from those of the image
-abbrev made : tie.After-sum-above → tie.After-light-picture
+abbrev made : tie.After-sum-above → tie.After-light-channel
 made c = c .before .before .before
 
 abbrev summed : tie.After-keep-rows → tie.After-sum-above
@@ -36,8 +36,8 @@ same-sums : (c : tie.After-struct-known2) → length (kept c .keep-rows .last .0
 same-sums c =
     omega (arith, c .before .before .before .before .sums .given, start (made (summed (kept c))) .pre .sums-are)
 
-light-picture-requires : tie.Need-light-picture-requires
-light-picture-requires c κs = c .before .before .before .before .before .before .pre .show .sums .lawful
+light-channel-requires : tie.Need-light-channel-requires
+light-channel-requires c κs = c .before .before .before .before .before .before .pre .show .sums .lawful
 
 add-t11 : tie.Need-add-t11
 add-t11 c = omega (arith, start (c .before) .pre .show .sums .lawful .reach-top)
@@ -45,15 +45,15 @@ add-t11 c = omega (arith, start (c .before) .pre .show .sums .lawful .reach-top)
 sum-above-requires : tie.Need-sum-above-requires
 sum-above-requires c κs =
     let made = c .before .before in
-    let high = ap (λ (p : Picture). p .high) (made .light-picture .ensures) in
+    let high = ap (λ (p : Channel). p .high) (made .light-channel .ensures) in
     record { fits = fits made; low = omega (arith, high, start made .pre .show) }
 
 keep-rows-requires : tie.Need-keep-rows-requires
 keep-rows-requires c κs =
     let summed = c .before .before .before .before in
     let made = made summed in
-    let columns = ap (λ (p : Picture). p .columns) (made .light-picture .ensures) in
-    let high = ap (λ (p : Picture). p .high) (made .light-picture .ensures) in
+    let columns = ap (λ (p : Channel). p .columns) (made .light-channel .ensures) in
+    let high = ap (λ (p : Channel). p .high) (made .light-channel .ensures) in
     record {
       fits = both-on _ _ _ (fits made) _ (summed .sum-above .ensures .same);
       to = summed .sum-above .ensures .to;
@@ -87,7 +87,7 @@ returns c =
     let sums = summed rows in
     let first = made sums in
     all-kept (start first .args .state) _ _ _ (rows .keep-rows .last .1 .0) _ _ _ _ _ _ (rows .keep-rows .last .0)
-    (first .light-picture .ensures)
+    (first .light-channel .ensures)
     (start first .pre)
     (omega (arith, known .before .before .scratch2 .given, sums .sum-above .ensures .same))
     (omega (arith, known .before .before .before .before .sums .given))
@@ -99,7 +99,7 @@ pub keep-all-spec : {M : Type 1} → statement M
 keep-all-spec =
     tie.close
     (tie.spec
-    light-picture-requires
+    light-channel-requires
     add-t11
     sum-above-requires
     keep-rows-requires

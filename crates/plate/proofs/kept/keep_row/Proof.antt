@@ -5,8 +5,8 @@ use lib.ListN.{getD, length-set}
 use borrow.Author.Needs.{needs}
 use Rattle.plate.specs.Passes.{rowStart}
 use Rattle.plate.specs.Keeping.{KeepIn}
-use Rattle.plate.proofs.showing.Writes.{Writing, writing-start, writing-all}
-use Rattle.plate.proofs.showing.Keeping.{keeping-next}
+use Rattle.plate.proofs.laws.showing.Writes.{Writing, writing-start, writing-all}
+use Rattle.plate.proofs.laws.showing.Keeping.{keeping-next}
 use Rattle.plate.proofs.kept.keep_row.Statement.{statement}
 use Rattle.plate.proofs.kept.keep_row.Tie as tie
 
@@ -24,8 +24,8 @@ start c = c .before .before
 -- there is room for one more column
 here : (c : tie.In-loop Inv-loop μ-loop)
     → let a = start c .args in
-    let turn = c .before .loop in
-    KeepIn (a .scratch .now) (turn .sums) (a .light) (a .matte) (a .first) (a .second) (turn .x + 1)
+    let iteration = c .before .loop in
+    KeepIn (a .scratch .now) (iteration .sums) (a .light) (a .matte) (a .first) (a .second) (iteration .x + 1)
 here c = omega (arith, c .loop-test .taken, start c .pre, c .before .loop .inv .1 .same)
 
 loop-holds : tie.Need-loop-holds Inv-loop μ-loop
@@ -76,12 +76,12 @@ loop-less c = omega (arith, c .before .before .loop-test .taken)
 loop-again : tie.Need-loop-again Inv-loop μ-loop
 loop-again c =
     let test = c .before .before in
-    let turn = test .before .loop in
+    let iteration = test .before .loop in
     let a = start test .args in
     let pre = start test .pre in (
       omega (arith, test .loop-test .taken),
-      keeping-next (a .scratch .now) _ (turn .sums) (a .light) (a .matte) _ _ _ (turn .x) (pre .first-in) (pre .second-in)
-          (test .loop-test .taken) (turn .inv .1),
+      keeping-next (a .scratch .now) _ (iteration .sums) (a .light) (a .matte) _ _ _ (iteration .x) (pre .first-in) (pre .second-in)
+          (test .loop-test .taken) (iteration .inv .1),
     )
 
 returns : tie.Need-returns Inv-loop μ-loop

@@ -5,13 +5,13 @@ use denote.Ref.{now}
 use borrow.Author.Needs.{needs}
 use Rattle.plate_model.specs.declared.state.Outcome.the-variants.{Accepted}
 use Rattle.plate_model.specs.declared.lent.Ask.{Ask}
-use Rattle.plate_model.specs.Lent.{Lent, lent, sizedAs, ask, Canvas, canvas}
+use Rattle.plate_model.specs.Lent.{Lent, lent, lengthsOf, ask, Canvas, canvas}
 use Rattle.plate_model.specs.declared.change.ChangeRead.the-variants.{ToChange}
 use Rattle.plate_model.specs.Change.{putRead}
 use Rattle.plate_model.specs.Calls.{putBy}
 use Rattle.plate_model.specs.Kept.{keptRead, canvasFirst, canvasBy, putKeptBy, putKeptCall}
 use Rattle.plate_model.proofs.changing.Changes.{put-ready}
-use Rattle.plate.proofs.mending.Rows.{mend-ready}
+use Rattle.plate.proofs.laws.mending.Rows.{mend-ready}
 use Rattle.plate.proofs.kept.put_kept.Statement.{statement}
 use Rattle.plate.proofs.kept.put_kept.Tie as tie
 
@@ -35,7 +35,7 @@ checked c = let told = c .before .before in sym (told .before .before .check-kep
 -- the change that was read
 reads : (c : tie.After-change)
     → let s = start (c .before .before) in
-    putRead (s .args .state) (asked s) (sizedAs (held s)) (held s .pixels) ≡ ToChange (c .change .given .0 .0)
+    putRead (s .args .state) (asked s) (lengthsOf (held s)) (held s .pixels) ≡ ToChange (c .change .given .0 .0)
 reads c = sym (c .before .before .read-put .ensures) ∙ c .change .given .1
 
 returns : tie.Need-returns

@@ -3,13 +3,13 @@ use mathlib.Core.Path.{_≡_, sym, _∙_}
 use denote.Ref.{now}
 use borrow.Author.Needs.{needs}
 use Rattle.plate_model.specs.declared.state.Outcome.the-variants.{Accepted}
-use Rattle.plate_model.specs.Lent.{Lent, lent, sizedAs, Canvas, canvas}
+use Rattle.plate_model.specs.Lent.{Lent, lent, lengthsOf, Canvas, canvas}
 use Rattle.plate_model.specs.declared.change.ChangeRead.the-variants.{ToChange}
 use Rattle.plate_model.specs.Change.{undoRead}
 use Rattle.plate_model.specs.Calls.{undoBy}
 use Rattle.plate_model.specs.Kept.{keptRead, canvasFirst, canvasBy, undoKeptBy, undoKeptCall}
 use Rattle.plate_model.proofs.changing.Changes.{undo-ready}
-use Rattle.plate.proofs.mending.Rows.{mend-ready}
+use Rattle.plate.proofs.laws.mending.Rows.{mend-ready}
 use Rattle.plate.proofs.kept.undo_kept.Statement.{statement}
 use Rattle.plate.proofs.kept.undo_kept.Tie as tie
 
@@ -30,7 +30,7 @@ checked c = let told = c .before .before .before in sym (told .before .before .c
 -- the change that was read
 reads : (c : tie.After-change)
     → let s = start (c .before .before) in
-    undoRead (s .args .state) (sizedAs (held s)) (held s .pixels) (held s .log) ≡ ToChange (c .change .given .0 .0)
+    undoRead (s .args .state) (lengthsOf (held s)) (held s .pixels) (held s .log) ≡ ToChange (c .change .given .0 .0)
 reads c = sym (c .before .before .read-undo .ensures) ∙ c .change .given .1
 
 returns : tie.Need-returns

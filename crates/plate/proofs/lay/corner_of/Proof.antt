@@ -6,7 +6,7 @@ use mathlib.Core.Path.{_≡_, ap}
 use Rattle.plate_model.specs.Layout.{wide, high}
 use Rattle.plate.specs.Frame.{Frame}
 use Rattle.plate.specs.Laying.{cornerOf}
-use Rattle.plate.proofs.laying.Corners.{corner-in}
+use Rattle.plate.proofs.laws.laying.Corners.{corner-in}
 use Rattle.plate.proofs.lay.corner_of.Statement.{statement}
 use Rattle.plate.proofs.lay.corner_of.Tie as tie
 

@@ -3,7 +3,7 @@ use native.Mathlib.Omega.{arith}
 use borrow.Author.Needs.{needs}
 use Rattle.kernels_model.specs.Mark.{minus, boxGrid, marksTo}
 use Rattle.plate.specs.Laying.{AllIn}
-use Rattle.plate.proofs.laying.Worths.{times-one, drawn-append, box-columns}
+use Rattle.plate.proofs.laws.laying.Amounts.{times-one, drawn-append, box-columns}
 use Rattle.plate.proofs.lay.lay_box.Statement.{statement}
 use Rattle.plate.proofs.lay.lay_box.Tie as tie
 

@@ -2,7 +2,7 @@
 use mathlib.Core.Path.{ap, _∙_}
 use borrow.Author.Needs.{needs}
 use Rattle.plate.specs.Laying.{layDrawn}
-use Rattle.plate.proofs.laying.Corners.{centre-grid}
+use Rattle.plate.proofs.laws.laying.Corners.{centre-grid}
 use Rattle.plate.proofs.lay.lay_centre.Statement.{statement}
 use Rattle.plate.proofs.lay.lay_centre.Tie as tie
 

@@ -1,4 +1,4 @@
--- Each turn lays the next mark of the column, with its factor.
+-- Each iteration lays the next mark of the column, with its factor.
 use mathlib.Core.Path.{_≡_, refl}
 use Prim.Native.Nat.{ℕ, suc, _+_, _*_, _-_, _≤_, _<_}
 use native.Mathlib.Omega.{arith}
@@ -9,15 +9,15 @@ use borrow.Author.Needs.{needs}
 use Rattle.kernels_model.specs.Fixed.{margin}
 use Rattle.kernels_model.specs.Mark.{marksTo}
 use Rattle.kernels_model.proofs.numbers.Products.{product-le}
-use Rattle.plate.specs.Laying.{Worth, times, layDrawn, gridColumn}
-use Rattle.plate.proofs.laying.Worths.{column-more, mark-in}
+use Rattle.plate.specs.Laying.{Amounts, times, layDrawn, gridColumn}
+use Rattle.plate.proofs.laws.laying.Amounts.{column-more, mark-in}
 use Rattle.plate.proofs.lay.lay_column.Statement.{statement}
 use Rattle.plate.proofs.lay.lay_column.Tie as tie
 
 abbrev Inv-loop : tie.InvT-loop
 Inv-loop planes₀ g b x w j₀ j-end planes j =
     (j ≤ j-end) × (length planes ≡ length planes₀)
-    × ((v : Worth) (c : ℕ) → w ≡ times v c
+    × ((v : Amounts) (c : ℕ) → w ≡ times v c
     → planes ≡ layDrawn g v planes₀ (gridColumn (b .plane) (b .count) (b .side) x c j))
 
 abbrev μ-loop : tie.MeasureT-loop
@@ -52,39 +52,39 @@ add-lay-mark c = omega (arith, steps (c .before .before))
 
 factored-requires : tie.Need-factored-requires Inv-loop μ-loop
 factored-requires c κs =
-    let turn = c .before .before in
-    let h = start (turn .before) .pre in
-    (h .two-at-least, h .three-at-most, omega (arith, turn .loop-test .taken))
+    let iteration = c .before .before in
+    let h = start (iteration .before) .pre in
+    (h .two-at-least, h .three-at-most, omega (arith, iteration .loop-test .taken))
 
 lay-mark-requires : tie.Need-lay-mark-requires Inv-loop μ-loop
 lay-mark-requires c κs =
-    let turn = c .before .before .before in
-    let s = start (turn .before) in
+    let iteration = c .before .before .before in
+    let s = start (iteration .before) in
     let a = s .args in (
-      omega (arith, turn .before .loop .inv .1, s .pre .roomy .planes-are),
-      mark-in (a .g) (a .b .plane) (a .b .count) (a .b .side) (a .x) (turn .before .loop .j)
-          (omega (arith, turn .loop-test .taken))
-          (s .pre .roomy .inside),
+      omega (arith, iteration .before .loop .inv .1, s .pre .marks-fit .planes-are),
+      mark-in (a .g) (a .b .plane) (a .b .count) (a .b .side) (a .x) (iteration .before .loop .j)
+          (omega (arith, iteration .loop-test .taken))
+          (s .pre .marks-fit .inside),
     )
 
 loop-again : tie.Need-loop-again Inv-loop μ-loop
 loop-again c =
     let laid = c .before .before in
-    let turn = laid .before .before .before .before in
-    let s = start (turn .before) in
+    let iteration = laid .before .before .before .before in
+    let s = start (iteration .before) in
     let a = s .args in (
       omega arith,
       search needs,
-      λ v k e. rw (laid .lay-mark .ensures, turn .before .loop .inv .2 v k e, add-one)
-          (column-more (a .g) v (a .w) _ (now (a .planes)) (a .b .plane) (a .b .count) (a .b .side) (a .x) k (turn .before .loop .j) e
+      λ v k e. rw (laid .lay-mark .ensures, iteration .before .loop .inv .2 v k e, add-one)
+          (column-more (a .g) v (a .w) _ (now (a .planes)) (a .b .plane) (a .b .count) (a .b .side) (a .x) k (iteration .before .loop .j) e
           (laid .before .factored .ensures)),
     )
 
 returns : tie.Need-returns Inv-loop μ-loop
 returns c =
-    let turn = c .before .loop in
-    let last : turn .j ≡ suc (start (c .before) .args .b .count) = omega arith in
-    λ v k e. rw last at (turn .inv .2 v k e)
+    let iteration = c .before .loop in
+    let last : iteration .j ≡ suc (start (c .before) .args .b .count) = omega arith in
+    λ v k e. rw last at (iteration .inv .2 v k e)
 
 pub lay-column-spec : {M : Type 1} → statement M
 lay-column-spec =

@@ -1,4 +1,4 @@
--- Each turn lays the next column of the grid, with its factor.
+-- Each iteration lays the next column of the grid, with its factor.
 use mathlib.Core.List.{List}
 use mathlib.Core.Path.{_≡_, refl, _∙_, ap}
 use Prim.Native.Nat.{ℕ, suc, _+_, _*_, _-_, _≤_, _<_}
@@ -12,7 +12,7 @@ use Rattle.kernels_model.specs.Mark.{marksTo, boxGrid}
 use Rattle.kernels_model.specs.Drawing.{drawnMarks}
 use Rattle.kernels_model.proofs.numbers.Products.{product-le}
 use Rattle.plate.specs.Laying.{AllIn, layDrawn, factor, columnMarks}
-use Rattle.plate.proofs.laying.Worths.{gridTo, columns-in, grid-more}
+use Rattle.plate.proofs.laws.laying.Amounts.{gridTo, columns-in, grid-more}
 use Rattle.plate.proofs.lay.lay_columns.Statement.{statement}
 use Rattle.plate.proofs.lay.lay_columns.Tie as tie
 
@@ -27,7 +27,7 @@ abbrev μ-loop : tie.MeasureT-loop
 abbrev start : tie.At-loop Inv-loop μ-loop → tie.Start Inv-loop μ-loop
 start c = c .before .before .before
 
--- the column that a turn lays is inside
+-- the column that a iteration lays is inside
 inside : (c : tie.In-loop Inv-loop μ-loop)
     → let a = start (c .before) .args in
     AllIn (a .g) (columnMarks (a .b) (margin + c .before .loop .i * a .b .side) 1)
@@ -66,19 +66,19 @@ add-lay-column c = omega (arith, steps (c .before .before))
 
 factored-requires : tie.Need-factored-requires Inv-loop μ-loop
 factored-requires c κs =
-    let turn = c .before .before in
-    let h = start (turn .before) .pre in
-    (h .1, h .2, omega (arith, turn .loop-test .taken))
+    let iteration = c .before .before in
+    let h = start (iteration .before) .pre in
+    (h .1, h .2, omega (arith, iteration .loop-test .taken))
 
 lay-column-requires : tie.Need-lay-column-requires Inv-loop μ-loop
 lay-column-requires c κs =
-    let turn = c .before .before .before in
-    let s = start (turn .before) in
+    let iteration = c .before .before .before in
+    let s = start (iteration .before) in
     let a = s .args in
-    let column = inside turn in
+    let column = inside iteration in
     record {
-      roomy = record { planes-are = omega (arith, turn .before .loop .inv .1, s .pre .0 .planes-are); inside = column .0 };
-      last-in = omega (arith, turn .before .loop .inv .1, s .pre .0 .planes-are, column .1);
+      marks-fit = record { planes-are = omega (arith, iteration .before .loop .inv .1, s .pre .0 .planes-are); inside = column .0 };
+      last-in = omega (arith, iteration .before .loop .inv .1, s .pre .0 .planes-are, column .1);
       two-at-least = s .pre .1;
       three-at-most = s .pre .2;
     }
@@ -86,26 +86,26 @@ lay-column-requires c κs =
 loop-again : tie.Need-loop-again Inv-loop μ-loop
 loop-again c =
     let laid = c .before .before in
-    let turn = laid .before .before .before .before in
-    let s = start (turn .before) in
+    let iteration = laid .before .before .before .before in
+    let s = start (iteration .before) in
     let a = s .args in
-    let i = turn .before .loop .i in (
+    let i = iteration .before .loop .i in (
       omega arith,
       search needs,
       rw add-one
           (laid .lay-column .ensures (a .w) (factor (a .b .count) i) (laid .before .factored .ensures)
           ∙ ap
           (λ (cells : List ℕ). layDrawn (a .g) (a .w) cells (columnMarks (a .b) (margin + i * a .b .side) (factor (a .b .count) i)))
-          (turn .before .loop .inv .2)
+          (iteration .before .loop .inv .2)
           ∙ grid-more (a .g) (a .w) (now (a .planes)) (a .b) i),
     )
 
 returns : tie.Need-returns Inv-loop μ-loop
 unfolding drawnMarks boxGrid gridTo
 returns c =
-    let turn = c .before .loop in
-    let last : turn .i ≡ suc (start (c .before) .args .b .count) = omega arith in
-    rw last at (turn .inv .2)
+    let iteration = c .before .loop in
+    let last : iteration .i ≡ suc (start (c .before) .args .b .count) = omega arith in
+    rw last at (iteration .inv .2)
 
 pub lay-columns-spec : {M : Type 1} → statement M
 lay-columns-spec =

@@ -4,7 +4,7 @@ use borrow.Author.Needs.{needs}
 use Rattle.kernels_model.specs.Mark.{minus}
 use Rattle.kernels_model.specs.Drawing.{drawnMarks, linePieces}
 use Rattle.plate.specs.Laying.{levelMarks}
-use Rattle.plate.proofs.laying.Worths.{times-one, both-laid, LineIn, line-in, lines-in}
+use Rattle.plate.proofs.laws.laying.Amounts.{times-one, both-laid, LineIn, line-in, lines-in}
 use Rattle.plate.proofs.lay.lay_lines.Statement.{statement}
 use Rattle.plate.proofs.lay.lay_lines.Tie as tie
 

@@ -3,7 +3,7 @@ use native.Mathlib.Omega.{arith}
 use lib.ListN.{length-set}
 use borrow.Author.Needs.{needs}
 use Rattle.plate_model.specs.Marks.{layOne}
-use Rattle.plate.specs.Laying.{layWorth}
+use Rattle.plate.specs.Laying.{layAmounts}
 use Rattle.plate.proofs.lay.lay_mark.Statement.{statement}
 use Rattle.plate.proofs.lay.lay_mark.Tie as tie
 
@@ -14,7 +14,7 @@ slice-write-planes-2 : tie.Need-slice-write-planes-2
 slice-write-planes-2 c = simp length-set (omega arith)
 
 returns : tie.Need-returns
-unfolding layWorth layOne
+unfolding layAmounts layOne
 returns c = rw (c .wrapping-add-u642 .ensures, c .before .before .wrapping-add-u64 .ensures)
 
 pub lay-mark-spec : {M : Type 1} → statement M

@@ -3,7 +3,7 @@ use mathlib.Core.Path.{_∙_}
 use native.Mathlib.Omega.{arith}
 use borrow.Author.Needs.{needs}
 use Rattle.kernels_model.specs.declared.shape.Shape.the-variants.{Box}
-use Rattle.plate.proofs.laying.Corners.{kernel-roomy, pixel-reaches, pixel-laid}
+use Rattle.plate.proofs.laws.laying.Corners.{kernel-fits, pixel-reaches, pixel-laid}
 use Rattle.plate.proofs.lay.lay_pixel.Statement.{statement}
 use Rattle.plate.proofs.lay.lay_pixel.Tie as tie
 
@@ -21,14 +21,14 @@ lay-taps-requires c κs =
     let reached = cornered .before in
     let s = start reached in
     rw (cornered .corner-of .ensures, reached .reach .ensures)
-    (kernel-roomy _ _ _ (s .pre .placed) _ _ (pixel-reaches _ _ _ _ _ _ (s .pre)) _ (s .pre .planes-are))
+    (kernel-fits _ _ _ (s .pre .placed) _ _ (pixel-reaches _ _ _ _ _ _ (s .pre)) _ (s .pre .planes-are))
 
 lay-centre-requires : tie.Need-lay-centre-requires
 lay-centre-requires c κs =
     let middle = c .before .before .before .before .before in
     let s = start (middle .before .before) in
     rw (middle .corner-of2 .ensures)
-    (kernel-roomy _ _ _ (s .pre .placed) Box 0 (omega arith) _ (search needs ∙ s .pre .planes-are))
+    (kernel-fits _ _ _ (s .pre .placed) Box 0 (omega arith) _ (search needs ∙ s .pre .planes-are))
 
 returns : tie.Need-returns
 returns c =
@@ -47,8 +47,8 @@ returns c =
       laid .lay-taps .ensures,
       cornered .corner-of .ensures,
       reached .reach .ensures,
-      centre .worth-of2 .ensures,
-      taps .worth-of .ensures,
+      centre .amounts-of2 .ensures,
+      taps .amounts-of .ensures,
     )
     (pixel-laid (a .frame) _ (a .x) (a .y) (a .p) (a .share) (s .pre) _)
 

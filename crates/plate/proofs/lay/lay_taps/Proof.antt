@@ -1,7 +1,7 @@
 -- What is laid is what `draw` hands out, and its marks are the kernel's, counted from the corner.
 use borrow.Author.Needs.{needs}
 use Rattle.kernels_model.proofs.drawing.Drawings.{drawing-marks}
-use Rattle.plate.proofs.laying.Corners.{few-boxes}
+use Rattle.plate.proofs.laws.laying.Corners.{few-boxes}
 use Rattle.plate.proofs.lay.lay_taps.Statement.{statement}
 use Rattle.plate.proofs.lay.lay_taps.Tie as tie
 

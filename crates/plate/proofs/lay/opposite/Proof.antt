@@ -1,6 +1,6 @@
 -- `lay::opposite` meets its contract: what wraps to 0 with a number is minus that number, wrapped.
 use borrow.Author.Needs.{needs}
-use Rattle.plate.proofs.laying.Worths.{opposite-number}
+use Rattle.plate.proofs.laws.laying.Amounts.{opposite-number}
 use Rattle.plate.proofs.lay.opposite.Statement.{statement}
 use Rattle.plate.proofs.lay.opposite.Tie as tie
 

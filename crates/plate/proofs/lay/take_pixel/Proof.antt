@@ -3,7 +3,7 @@ use mathlib.Core.Path.{_∙_}
 use native.Mathlib.Omega.{arith}
 use borrow.Author.Needs.{needs}
 use Rattle.kernels_model.specs.declared.shape.Shape.the-variants.{Box}
-use Rattle.plate.proofs.laying.Corners.{kernel-roomy, pixel-reaches, pixel-taken}
+use Rattle.plate.proofs.laws.laying.Corners.{kernel-fits, pixel-reaches, pixel-taken}
 use Rattle.plate.proofs.lay.take_pixel.Statement.{statement}
 use Rattle.plate.proofs.lay.take_pixel.Tie as tie
 
@@ -21,14 +21,14 @@ lay-taps-requires c κs =
     let reached = cornered .before in
     let s = start reached in
     rw (cornered .corner-of .ensures, reached .reach .ensures)
-    (kernel-roomy _ _ _ (s .pre .placed) _ _ (pixel-reaches _ _ _ _ _ _ (s .pre)) _ (s .pre .planes-are))
+    (kernel-fits _ _ _ (s .pre .placed) _ _ (pixel-reaches _ _ _ _ _ _ (s .pre)) _ (s .pre .planes-are))
 
 lay-centre-requires : tie.Need-lay-centre-requires
 lay-centre-requires c κs =
     let middle = c .before .before .before .before .before in
     let s = start (middle .before .before) in
     rw (middle .corner-of2 .ensures)
-    (kernel-roomy _ _ _ (s .pre .placed) Box 0 (omega arith) _ (search needs ∙ s .pre .planes-are))
+    (kernel-fits _ _ _ (s .pre .placed) Box 0 (omega arith) _ (search needs ∙ s .pre .planes-are))
 
 returns : tie.Need-returns
 returns c =
@@ -50,9 +50,9 @@ returns c =
       cornered .corner-of .ensures,
       reached .reach .ensures,
       centre .opposite2 .ensures,
-      centre-worth .worth-of2 .ensures,
+      centre-worth .amounts-of2 .ensures,
       taps .opposite .ensures,
-      taps-worth .worth-of .ensures,
+      taps-worth .amounts-of .ensures,
     )
     (pixel-taken (a .frame) _ (a .x) (a .y) (a .p) (a .share) (s .pre) _)
 

@@ -1,6 +1,6 @@
 -- `lay::thrice` meets its contract: a sum that wraps may wrap on the way.
 use borrow.Author.Needs.{needs}
-use Rattle.plate.proofs.laying.Worths.{thrice-number}
+use Rattle.plate.proofs.laws.laying.Amounts.{thrice-number}
 use Rattle.plate.proofs.lay.thrice.Statement.{statement}
 use Rattle.plate.proofs.lay.thrice.Tie as tie
 

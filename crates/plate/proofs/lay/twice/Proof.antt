@@ -1,6 +1,6 @@
 -- `lay::twice` meets its contract: `wrapping_add_u64` wraps each of the two sums.
 use borrow.Author.Needs.{needs}
-use Rattle.plate.proofs.laying.Worths.{twice-number}
+use Rattle.plate.proofs.laws.laying.Amounts.{twice-number}
 use Rattle.plate.proofs.lay.twice.Statement.{statement}
 use Rattle.plate.proofs.lay.twice.Tie as tie
 

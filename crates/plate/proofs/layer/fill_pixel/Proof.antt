@@ -7,7 +7,7 @@ use borrow.Author.Needs.{needs}
 use Rattle.kernels_model.specs.Lens.{blur}
 use Rattle.kernels_model.proofs.taps.Shares.{table-share}
 use Rattle.kernels_model.proofs.lenses.ThinLens.{radius-read}
-use Rattle.plate.proofs.filling.Filling.{radius-is}
+use Rattle.plate.proofs.laws.filling.Filling.{radius-is}
 use Rattle.plate.proofs.layer.fill_pixel.Statement.{statement}
 use Rattle.plate.proofs.layer.fill_pixel.Tie as tie
 

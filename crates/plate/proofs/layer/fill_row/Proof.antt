@@ -1,4 +1,4 @@
--- A turn lays and stores the pixel at its place, which is the next one; after the last turn the row is done.
+-- A iteration lays and stores the pixel at its place, which is the next one; after the last iteration the row is done.
 use mathlib.Core.Path.{_≡_, refl}
 use mathlib.Core.List.{List}
 use Prim.Native.Nat.{ℕ, _+_, _*_, _-_, _≤_, _<_}
@@ -9,7 +9,7 @@ use borrow.Author.Needs.{needs}
 use Rattle.plate_model.specs.Lent.{inputs}
 use Rattle.plate.specs.Filling.{layerSize, FilledTo, FilledRow}
 use Rattle.plate_model.proofs.numbers.Extents.{place-within, row-in}
-use Rattle.plate.proofs.filling.Filling.{filled-more}
+use Rattle.plate.proofs.laws.filling.Filling.{filled-more}
 use Rattle.plate.proofs.layer.fill_row.Statement.{statement}
 use Rattle.plate.proofs.layer.fill_row.Tie as tie
 
@@ -70,13 +70,13 @@ shared-slice-read-fill-pixel-3 c = omega (arith, inside (c .before .before .befo
 
 fill-pixel-requires : tie.Need-fill-pixel-requires Inv-loop μ-loop
 fill-pixel-requires c κs =
-    let turn = c .before .before .before .before in
-    let start = entry (turn .before) in
+    let iteration = c .before .before .before .before in
+    let start = entry (iteration .before) in
     let h = start .pre .0 in (
-      rw (turn .before .loop .inv .1) (h .layable),
+      rw (iteration .before .loop .inv .1) (h .layable),
       start .pre .1,
       record {
-        column-in = turn .loop-test .taken;
+        column-in = iteration .loop-test .taken;
         row-in = start .pre .2;
         value-in = h .values-in _;
         depth-in = h .depths-in _;
@@ -92,21 +92,21 @@ slice-write-pixels c = omega (arith, inside (c .before .before .before .before .
 loop-again : tie.Need-loop-again Inv-loop μ-loop
 loop-again c =
     let made = c .before .before in
-    let turn = made .before .before .before .before .before in
-    let start = entry (turn .before) in
+    let iteration = made .before .before .before .before .before in
+    let start = entry (iteration .before) in
     let a = start .args in
     let h = start .pre .0 in (
       omega arith,
       search needs,
       search needs,
       λ cells done. filled-more (a .layer) (inputs (a .values .now) (a .opacities .now) (a .depths .now)) cells
-          (turn .before .loop .planes) (turn .before .loop .pixels) _ _ _ _
+          (iteration .before .loop .planes) (iteration .before .loop .pixels) _ _ _ _
           (h .layable .top-is)
-          (omega (arith, inside turn, turn .before .loop .inv .2))
+          (omega (arith, inside iteration, iteration .before .loop .inv .2))
           (omega arith)
           (made .fill-pixel .ensures .laid)
           (made .fill-pixel .ensures .word-is)
-          (turn .before .loop .inv .3 cells done),
+          (iteration .before .loop .inv .3 cells done),
     )
 
 returns : tie.Need-returns Inv-loop μ-loop

@@ -1,4 +1,4 @@
--- Each turn does a row; after the last one all places are done.
+-- Each iteration does a row; after the last one all places are done.
 use mathlib.Core.Path.{_≡_, refl, ap, _∙_}
 use Prim.Native.Nat.{ℕ, _*_, _-_, _≤_}
 use native.Mathlib.Omega.{arith}
@@ -7,7 +7,7 @@ use lib.ListN.{length}
 use borrow.Author.Needs.{needs}
 use Rattle.plate_model.specs.Lent.{inputs}
 use Rattle.plate.specs.Filling.{layerSize, FilledTo, FilledRow}
-use Rattle.plate.proofs.filling.Filling.{filled-none}
+use Rattle.plate.proofs.laws.filling.Filling.{filled-none}
 use Rattle.plate.proofs.layer.fill_rows.Statement.{statement}
 use Rattle.plate.proofs.layer.fill_rows.Tie as tie
 
@@ -28,16 +28,16 @@ loop-holds c = (search needs, refl, refl, filled-none _ _ _ _ _ (omega arith))
 
 fill-row-requires : tie.Need-fill-row-requires Inv-loop μ-loop
 fill-row-requires c κs =
-    let turn = c .before .before in
-    let start = entry (turn .before) in
-    (rw (turn .before .loop .inv .1, turn .before .loop .inv .2) (start .pre .0), start .pre .1, turn .loop-test .taken)
+    let iteration = c .before .before in
+    let start = entry (iteration .before) in
+    (rw (iteration .before .loop .inv .1, iteration .before .loop .inv .2) (start .pre .0), start .pre .1, iteration .loop-test .taken)
 
 loop-again : tie.Need-loop-again Inv-loop μ-loop
 unfolding FilledRow
 loop-again c =
     let made = c .before .before .before .before in
-    let turn = made .before .before .before .before .loop in
-    (omega arith, search needs, search needs, made .fill-row .ensures _ (turn .inv .3))
+    let iteration = made .before .before .before .before .loop in
+    (omega arith, search needs, search needs, made .fill-row .ensures _ (iteration .inv .3))
 
 returns : tie.Need-returns Inv-loop μ-loop
 returns c =

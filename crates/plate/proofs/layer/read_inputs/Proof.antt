@@ -7,7 +7,7 @@ use Rattle.plate_model.specs.declared.state.Outcome.the-variants.{Accepted}
 use Rattle.plate_model.specs.declared.state.Refusal.the-variants.{Depth}
 use Rattle.plate_model.specs.Refusal.{refuseIf, anyAbove, shapeCheck, lensCheck, depthsCheck, insideCheck, layerCheck}
 use Rattle.plate_model.specs.Lent.{inputs}
-use Rattle.plate.proofs.checks.Scans.{above-found}
+use Rattle.plate.proofs.laws.checks.Scans.{above-found}
 use Rattle.plate.proofs.layer.read_inputs.Statement.{statement}
 use Rattle.plate.proofs.layer.read_inputs.Tie as tie
 use Rattle.kernels_model.specs.Fixed.{depthTop}

@@ -4,8 +4,8 @@ use lib.ListN.{length}
 use borrow.Author.Needs.{needs}
 use Rattle.plate_model.specs.declared.state.Outcome.the-variants.{Accepted}
 use Rattle.plate.specs.Filling.{fillLengths}
-use Rattle.plate.proofs.checks.Lengths.{fill-accepted}
-use Rattle.plate.proofs.filling.Filling.{layer-before, layer-past}
+use Rattle.plate.proofs.laws.checks.Lengths.{fill-accepted}
+use Rattle.plate.proofs.laws.filling.Filling.{layer-before, layer-past}
 use Rattle.plate.proofs.layer.read_layer.Statement.{statement}
 use Rattle.plate.proofs.layer.read_layer.Tie as tie
 

@@ -2,7 +2,7 @@
 use native.Mathlib.Omega.{arith}
 use lib.ListN.{length-replicate}
 use borrow.Author.Needs.{needs}
-use Rattle.plate.proofs.filling.Filling.{filled-all}
+use Rattle.plate.proofs.laws.filling.Filling.{filled-all}
 use Rattle.plate.proofs.layer.refill.Statement.{statement}
 use Rattle.plate.proofs.layer.refill.Tie as tie
 

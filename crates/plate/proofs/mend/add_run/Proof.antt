@@ -4,7 +4,7 @@ use Prim.Native.Nat.{_+_, _-_, _%_, _^_, _≤_, _<_}
 use native.Mathlib.Omega.{arith}
 use lib.ListN.{getD, length}
 use borrow.Author.Needs.{needs}
-use Rattle.plate.proofs.showing.Writes.{Writing, writing-start, writing-one, writing-all}
+use Rattle.plate.proofs.laws.showing.Writes.{Writing, writing-start, writing-one, writing-all}
 use Rattle.plate.proofs.mend.add_run.Statement.{statement}
 use Rattle.plate.proofs.mend.add_run.Tie as tie
 
@@ -52,11 +52,11 @@ loop-less c = omega (arith, c .before .before .loop-test .taken)
 loop-again : tie.Need-loop-again Inv-loop μ-loop
 loop-again c =
     let test = c .before .before in
-    let turn = test .before .loop in
+    let iteration = test .before .loop in
     let s = start test in
-    let old = turn .inv .1 .next 0 (omega arith) (omega arith) (test .loop-test .taken) in (
+    let old = iteration .inv .1 .next 0 (omega arith) (omega arith) (test .loop-test .taken) in (
       omega (arith, test .loop-test .taken),
-      writing-one _ _ _ _ (turn .sums) (turn .i) _ (test .loop-test .taken) (s .pre) (turn .inv .1)
+      writing-one _ _ _ _ (iteration .sums) (iteration .i) _ (test .loop-test .taken) (s .pre) (iteration .inv .1)
           (c .wrapping-add-u64 .ensures ∙ rw old),
     )
 

@@ -2,7 +2,7 @@
 use Prim.Native.Nat.{_+_, _-_}
 use borrow.Author.Needs.{needs}
 use Rattle.plate.specs.Mending.{RunAdded}
-use Rattle.plate.proofs.mending.Runs.{run-given}
+use Rattle.plate.proofs.laws.mending.Runs.{run-given}
 use Rattle.plate.proofs.mend.give_run.Statement.{statement}
 use Rattle.plate.proofs.mend.give_run.Tie as tie
 

@@ -7,8 +7,8 @@ use Rattle.plate_model.specs.Fixed.{reachTop}
 use Rattle.plate_model.specs.Lent.{canvas}
 use Rattle.plate.specs.Mending.{MendedWhere}
 use Rattle.kernels_model.proofs.taps.ShapeNumbers.{reach-under}
-use Rattle.plate.proofs.mending.Mended.{mended-none, all-mended}
-use Rattle.plate.proofs.mending.Rows.{InRows, still-ready, rows-next, rows-mended}
+use Rattle.plate.proofs.laws.mending.Mended.{mended-none, all-mended}
+use Rattle.plate.proofs.laws.mending.Rows.{InRows, still-ready, rows-next, rows-mended}
 use Rattle.plate.proofs.mend.mend.Statement.{statement}
 use Rattle.plate.proofs.mend.mend.Tie as tie
 
@@ -23,7 +23,7 @@ abbrev μ-loop : tie.MeasureT-loop
 abbrev start : tie.After-greater Inv-loop μ-loop → tie.Start Inv-loop μ-loop
 start c = c .before .before .before .before .before .before .before .before .before .before
 
-abbrev shaped : tie.In-loop Inv-loop μ-loop → tie.After-stretch-around Inv-loop μ-loop
+abbrev shaped : tie.In-loop Inv-loop μ-loop → tie.After-columns-around Inv-loop μ-loop
 shaped c = c .before .before
 
 -- the farther of both reaches is the plate's at most
@@ -52,26 +52,26 @@ reaches c =
       ),
     )
 
-add-stretch-around : tie.Need-add-stretch-around Inv-loop μ-loop
-add-stretch-around c = omega (arith, reaches c .2)
+add-columns-around : tie.Need-add-columns-around Inv-loop μ-loop
+add-columns-around c = omega (arith, reaches c .2)
 
-stretch-around-requires : tie.Need-stretch-around-requires Inv-loop μ-loop
-stretch-around-requires c κs =
+columns-around-requires : tie.Need-columns-around-requires Inv-loop μ-loop
+columns-around-requires c κs =
     let s = start c in (s .pre .row-in, s .pre .lawful .height-top, omega (arith, reaches c .2))
 
 loop-holds : tie.Need-loop-holds Inv-loop μ-loop
 loop-holds c = (omega arith, mended-none _ _ _ _ (λ i s. omega (arith, s .0, s .1)))
 
--- a row of the stretch is one of the plate's
+-- a row of the columns is one of the plate's
 row-in : (c : tie.In-loop Inv-loop μ-loop) → c .before .loop .row < start (shaped c .before) .args .size .height
-row-in c = omega (arith, c .loop-test .taken, shaped c .stretch-around .ensures .1)
+row-in c = omega (arith, c .loop-test .taken, shaped c .columns-around .ensures .1)
 
 mend-row-requires : tie.Need-mend-row-requires Inv-loop μ-loop
 mend-row-requires c κs =
     let test = c .before .before .before in
     let made = shaped test .before in
-    let turn = test .before .loop in (
-      still-ready _ _ _ (start made .pre) _ _ (turn .inv .1),
+    let iteration = test .before .loop in (
+      still-ready _ _ _ (start made .pre) _ _ (iteration .inv .1),
       (
         record { old-is = made .before .before .before .before .share-of .ensures; new-is = made .before .before .before .share-of2 .ensures },
         row-in test,
@@ -91,8 +91,8 @@ loop-less c =
 loop-again : tie.Need-loop-again Inv-loop μ-loop
 loop-again c =
     let made = c .before .before .before .before .before .before in
-    let turn = made .before .before .before .before .before .loop in
-    (omega (arith, turn .inv .0), rows-next _ _ _ (turn .row) _ _ _ (turn .inv .0) (turn .inv .1) (made .mend-row .ensures))
+    let iteration = made .before .before .before .before .before .loop in
+    (omega (arith, iteration .inv .0), rows-next _ _ _ (iteration .row) _ _ _ (iteration .inv .0) (iteration .inv .1) (made .mend-row .ensures))
 
 same-length : tie.Need-same-length Inv-loop μ-loop
 same-length c = c .before .loop .inv .1 .same-sums
@@ -105,13 +105,13 @@ same-length-3 c = c .before .loop .inv .1 .same-mattes
 
 returns : tie.Need-returns Inv-loop μ-loop
 returns c =
-    let turn = c .before .loop in
+    let iteration = c .before .loop in
     let shape = c .before .before in
     let pre = start (shape .before) .pre in
     let far = reaches (shape .before) in
     all-mended _ _ _ _ (pre .sums-are) (pre .values-are) (pre .mattes-are)
-    (rows-mended _ _ _ _ _ _ (turn .row) _ pre (far .0) (far .1) (shape .stretch-around .ensures .0) (shape .stretch-around .ensures .1)
-    (omega arith) (turn .inv .1))
+    (rows-mended _ _ _ _ _ _ (iteration .row) _ pre (far .0) (far .1) (shape .columns-around .ensures .0) (shape .columns-around .ensures .1)
+    (omega arith) (iteration .inv .1))
 
 pub mend-spec : {M : Type 1} → statement M
 mend-spec =
@@ -124,8 +124,8 @@ mend-spec =
     (λ c κs. search needs)
     (λ c κs. search needs)
     (λ c κs. search needs)
-    add-stretch-around
-    stretch-around-requires
+    add-columns-around
+    columns-around-requires
     loop-holds
     mend-row-requires
     add-row

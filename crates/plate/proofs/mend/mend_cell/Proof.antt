@@ -3,7 +3,7 @@ use mathlib.Core.Path.{refl}
 use native.Mathlib.Omega.{arith}
 use lib.ListN.{length-set}
 use borrow.Author.Needs.{needs}
-use Rattle.plate.proofs.mending.Gives.{matte-small, light-small}
+use Rattle.plate.proofs.laws.mending.Gives.{matte-small, light-small}
 use Rattle.plate.proofs.mend.mend_cell.Statement.{statement}
 use Rattle.plate.proofs.mend.mend_cell.Tie as tie
 

@@ -1,4 +1,4 @@
--- `mend::mend_cells` meets its contract. The invariant: the columns of the stretch before this one are mended.
+-- `mend::mend_cells` meets its contract. The invariant: the columns of the columns before this one are mended.
 use Prim.Native.Nat.{_+_, _*_, _-_, _≤_, _<_}
 use native.Mathlib.Omega.{arith}
 use borrow.Author.Needs.{needs}
@@ -6,8 +6,8 @@ use Rattle.plate_model.specs.Lent.{canvas}
 use Rattle.plate_model.specs.Fixed.{placesTop}
 use Rattle.plate.specs.Mending.{MendedWhere}
 use Rattle.plate_model.proofs.numbers.Extents.{place-within}
-use Rattle.plate.proofs.mending.Mended.{InStretch, mended-none, stretch-next}
-use Rattle.plate.proofs.mending.Rows.{still-ready, cell-ready, column-mended, row-mended, span-low}
+use Rattle.plate.proofs.laws.mending.Mended.{InColumns, mended-none, columns-next}
+use Rattle.plate.proofs.laws.mending.Rows.{still-ready, cell-ready, column-mended, row-mended, span-low}
 use Rattle.plate.proofs.mend.mend_cells.Statement.{statement}
 use Rattle.plate.proofs.mend.mend_cells.Tie as tie
 
@@ -15,22 +15,22 @@ abbrev Inv-loop : tie.InvT-loop
 Inv-loop sums₀ values₀ mattes₀ size change old new row places span first past column₀ sums values mattes column =
     (first ≤ column)
     × (column ≤ first + (past - first))
-    × MendedWhere size change (InStretch size row first column) (canvas sums₀ values₀ mattes₀) (canvas sums values mattes)
+    × MendedWhere size change (InColumns size row first column) (canvas sums₀ values₀ mattes₀) (canvas sums values mattes)
 
 abbrev μ-loop : tie.MeasureT-loop
 μ-loop sums₀ values₀ mattes₀ size change old new row places span first past column₀ sums values mattes column = past - column
 
 -- where the call starts
-abbrev start : tie.After-stretch-around Inv-loop μ-loop → tie.Start Inv-loop μ-loop
+abbrev start : tie.After-columns-around Inv-loop μ-loop → tie.Start Inv-loop μ-loop
 start c = c .before .before .before .before .before .before
 
 -- what is known of the row before the loop
-abbrev shaped : tie.In-loop Inv-loop μ-loop → tie.After-stretch-around Inv-loop μ-loop
+abbrev shaped : tie.In-loop Inv-loop μ-loop → tie.After-columns-around Inv-loop μ-loop
 shaped c = c .before .before
 
--- a column of the stretch is one of the plate's
+-- a column of the columns is one of the plate's
 column-in : (c : tie.In-loop Inv-loop μ-loop) → c .before .loop .column < start (shaped c) .args .size .width
-column-in c = omega (arith, c .loop-test .taken, shaped c .stretch-around .ensures .1)
+column-in c = omega (arith, c .loop-test .taken, shaped c .columns-around .ensures .1)
 
 -- and its place is far below 2 ^ 64
 place-in : (c : tie.In-loop Inv-loop μ-loop) → let a = start (shaped c) .args in
@@ -47,8 +47,8 @@ mul-places : tie.Need-mul-places Inv-loop μ-loop
 mul-places c =
     let pre = c .before .before .before .before .pre in omega (arith, pre .ready .lawful .places-top)
 
-stretch-around-requires : tie.Need-stretch-around-requires Inv-loop μ-loop
-stretch-around-requires c κs =
+columns-around-requires : tie.Need-columns-around-requires Inv-loop μ-loop
+columns-around-requires c κs =
     let s = c .before .before .before .before .before in (
       s .pre .ready .column-in,
       s .pre .ready .lawful .width-top,
@@ -67,10 +67,10 @@ add-place c = omega (arith, place-in (c .before))
 mend-cell-requires : tie.Need-mend-cell-requires Inv-loop μ-loop
 mend-cell-requires c κs =
     let test = c .before .before .before .before .before in
-    let turn = test .before .loop in
+    let iteration = test .before .loop in
     let s = start (shaped test) in
-    cell-ready _ _ _ (still-ready _ _ _ (s .pre .ready) _ _ (turn .inv .2)) (s .args .row) (s .pre .row-in) _ _ (s .pre .old-is) (s .pre .new-is)
-    (turn .column) (column-in test)
+    cell-ready _ _ _ (still-ready _ _ _ (s .pre .ready) _ _ (iteration .inv .2)) (s .args .row) (s .pre .row-in) _ _ (s .pre .old-is) (s .pre .new-is)
+    (iteration .column) (column-in test)
 
 add-column : tie.Need-add-column Inv-loop μ-loop
 add-column c =
@@ -86,14 +86,14 @@ loop-again : tie.Need-loop-again Inv-loop μ-loop
 loop-again c =
     let made = c .before .before .before .before .before .before in
     let test = made .before .before .before .before .before .before in
-    let turn = test .before .loop in
+    let iteration = test .before .loop in
     let s = start (shaped test) in
     let done = rw (made .before .before .before .before .distance .ensures) at (made .mend-cell .ensures) in (
-      omega (arith, turn .inv .0),
-      omega (arith, turn .inv .1, test .loop-test .taken),
-      stretch-next _ _ (s .args .row) _ (turn .column) _ _ _ (column-in test) (turn .inv .0) (turn .inv .2)
-          (column-mended _ _ _ (still-ready _ _ _ (s .pre .ready) _ _ (turn .inv .2)) (s .args .row) (s .pre .row-in) _ _ (s .pre .old-is) (s .pre .new-is)
-          (turn .column) _ (column-in test) done),
+      omega (arith, iteration .inv .0),
+      omega (arith, iteration .inv .1, test .loop-test .taken),
+      columns-next _ _ (s .args .row) _ (iteration .column) _ _ _ (column-in test) (iteration .inv .0) (iteration .inv .2)
+          (column-mended _ _ _ (still-ready _ _ _ (s .pre .ready) _ _ (iteration .inv .2)) (s .args .row) (s .pre .row-in) _ _ (s .pre .old-is) (s .pre .new-is)
+          (iteration .column) _ (column-in test) done),
     )
 
 same-length : tie.Need-same-length Inv-loop μ-loop
@@ -107,11 +107,11 @@ same-length-3 c = c .before .loop .inv .2 .same-mattes
 
 returns : tie.Need-returns Inv-loop μ-loop
 returns c =
-    let turn = c .before .loop in
+    let iteration = c .before .loop in
     let made = c .before .before in
     let s = start made in
-    row-mended _ _ _ (s .pre .ready) (s .args .row) (s .pre .row-in) _ _ (s .pre .old-is) (s .pre .new-is) _ _ (turn .column) _ _ (made .before .greater .ensures)
-    (made .stretch-around .ensures .0) (made .stretch-around .ensures .1) (omega arith) (turn .inv .1) (turn .inv .2)
+    row-mended _ _ _ (s .pre .ready) (s .args .row) (s .pre .row-in) _ _ (s .pre .old-is) (s .pre .new-is) _ _ (iteration .column) _ _ (made .before .greater .ensures)
+    (made .columns-around .ensures .0) (made .columns-around .ensures .1) (omega arith) (iteration .inv .1) (iteration .inv .2)
 
 pub mend-cells-spec : {M : Type 1} → statement M
 mend-cells-spec =
@@ -121,7 +121,7 @@ mend-cells-spec =
     μ-loop
     mul-places
     (λ c κs. search needs)
-    stretch-around-requires
+    columns-around-requires
     loop-holds
     mul-place
     add-place

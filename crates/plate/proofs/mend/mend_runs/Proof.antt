@@ -6,13 +6,13 @@ use borrow.Author.Needs.{needs}
 use Rattle.kernels_model.specs.Mark.{minus}
 use Rattle.plate_model.specs.Fixed.{placesTop}
 use Rattle.plate_model.specs.Lent.{canvas}
-use Rattle.plate.specs.Laying.{Worth, times}
+use Rattle.plate.specs.Laying.{Amounts, times}
 use Rattle.plate.specs.Showing.{RowShown}
-use Rattle.plate.specs.Mending.{levelWorth, RunGiven}
+use Rattle.plate.specs.Mending.{levelAmounts, RunGiven}
 use Rattle.plate_model.proofs.numbers.Extents.{row-in}
-use Rattle.plate.proofs.mending.Gives.{gives-few}
-use Rattle.plate.proofs.mending.Rows.{span-low}
-use Rattle.plate.proofs.mending.Runs.{run-in, runs-mended}
+use Rattle.plate.proofs.laws.mending.Gives.{gives-few}
+use Rattle.plate.proofs.laws.mending.Rows.{span-low}
+use Rattle.plate.proofs.laws.mending.Runs.{run-in, runs-mended}
 use Rattle.plate.proofs.mend.mend_runs.Statement.{statement}
 use Rattle.plate.proofs.mend.mend_runs.Tie as tie
 
@@ -26,55 +26,55 @@ row-low s = let a = s .args in row-in (a .row) (a .size .width) (a .size .height
 mul-start : tie.Need-mul-start
 mul-start c = let s = c .before .before .before .before in omega (arith, row-low s, places-low s)
 
-stretch-around-requires : tie.Need-stretch-around-requires
-stretch-around-requires c κs =
+columns-around-requires : tie.Need-columns-around-requires
+columns-around-requires c κs =
     let s = c .before .before .before .before in
     let r = s .pre .0 in (r .ready .column-in, r .ready .lawful .width-top, omega (arith, span-low _ _ _ _ _ _ r .0))
 
-stretch-around-requires-2 : tie.Need-stretch-around-requires-2
-stretch-around-requires-2 c κs =
+columns-around-requires-2 : tie.Need-columns-around-requires-2
+columns-around-requires-2 c κs =
     let s = c .before .before .before .before .before in
     let r = s .pre .0 in (r .ready .column-in, r .ready .lawful .width-top, omega (arith, span-low _ _ _ _ _ _ r .1))
 
-level-worth-requires : tie.Need-level-worth-requires
-level-worth-requires c κs =
+level-amounts-requires : tie.Need-level-amounts-requires
+level-amounts-requires c κs =
     let s = c .before .before .before .before .before .before .before in
     gives-few _ _ _ _ (s .pre .0 .ready .old-fits) (s .pre .0 .old-is)
 
 give-run-requires : tie.Need-give-run-requires
 give-run-requires c κs =
     let s = c .before .before .before .before .before .before .before .before .before in
-    run-in _ _ _ _ _ _ (s .pre .0) _ _ (c .before .before .before .before .stretch-around .ensures) _ (s .pre .0 .ready .sums-are)
+    run-in _ _ _ _ _ _ (s .pre .0) _ _ (c .before .before .before .before .columns-around .ensures) _ (s .pre .0 .ready .sums-are)
 
-level-worth-requires-2 : tie.Need-level-worth-requires-2
-level-worth-requires-2 c κs =
+level-amounts-requires-2 : tie.Need-level-amounts-requires-2
+level-amounts-requires-2 c κs =
     let s = c .before .before .before .before .before .before .before .before .before .before .before .before .before in
     gives-few _ _ _ _ (s .pre .0 .ready .new-fits) (s .pre .0 .new-is)
 
 give-run-requires-2 : tie.Need-give-run-requires-2
 give-run-requires-2 c κs =
     let s = c .before .before .before .before .before .before .before .before .before .before .before .before .before .before in
-    run-in _ _ _ _ _ _ (s .pre .0) _ _ (c .before .before .before .before .before .before .before .before .stretch-around2 .ensures) _
+    run-in _ _ _ _ _ _ (s .pre .0) _ _ (c .before .before .before .before .before .before .before .before .columns-around2 .ensures) _
     (c .before .before .before .before .give-run .ensures .same ∙ s .pre .0 .ready .sums-are)
 
-stretch-around-requires-3 : tie.Need-stretch-around-requires-3
-stretch-around-requires-3 c κs =
+columns-around-requires-3 : tie.Need-columns-around-requires-3
+columns-around-requires-3 c κs =
     let s = c .before .before .before .before .before .before .before .before .before .before .before .before .before .before .before .before .before .before in
     let r = s .pre .0 in
     let low = span-low _ _ _ _ _ _ r in
     (r .ready .column-in, r .ready .lawful .width-top, omega (arith, c .greater .ensures, low .0, low .1))
 
--- where the wider stretch is made, and the call's start
-abbrev start : tie.After-stretch-around3 → tie.Start
+-- where the wider columns is made, and the call's start
+abbrev start : tie.After-columns-around3 → tie.Start
 start c = c .before .before .before .before .before .before .before .before .before .before .before .before .before .before .before .before .before .before .before
 
--- the wider stretch lies in the row
-wide-in : (c : tie.After-stretch-around3) → let a = start c .args in
-    let s = c .stretch-around3 .result in
+-- the wider columns lies in the row
+wide-in : (c : tie.After-columns-around3) → let a = start c .args in
+    let s = c .columns-around3 .result in
     (a .row * a .size .width + s .first ≤ a .size .width * a .size .height) × (a .row * a .size .width + s .past ≤ a .size .width * a .size .height)
 wide-in c =
     let s = start c in
-    let e = c .stretch-around3 .ensures in
+    let e = c .columns-around3 .ensures in
     (omega (arith, e .0, s .pre .0 .ready .column-in, row-low s), omega (arith, e .1, row-low s))
 
 add-first : tie.Need-add-first
@@ -111,15 +111,15 @@ returns c =
     let a = s .args in
     let n = a .size .width * a .size .height in
     let from = a .row * a .size .width in
-    let first = narrow .before .stretch-around in
-    let second = narrow .stretch-around2 in
-    let wide = made .stretch-around3 in
-    let by = old .before .opposite .ensures ∙ ap (λ (w : Worth). times w (minus 1)) (worth .level-worth .ensures) in
+    let first = narrow .before .columns-around in
+    let second = narrow .columns-around2 in
+    let wide = made .columns-around3 in
+    let by = old .before .opposite .ensures ∙ ap (λ (w : Amounts). times w (minus 1)) (worth .level-amounts .ensures) in
     let count = seen .before .before .before .before .less .ensures in
-    let taken : RunGiven n from (first .result) (times (levelWorth (a .old)) (minus 1)) (a .sums .now) (old .give-run .last .0) =
+    let taken : RunGiven n from (first .result) (times (levelAmounts (a .old)) (minus 1)) (a .sums .now) (old .give-run .last .0) =
     subst (λ w. RunGiven n from (first .result) w (a .sums .now) (old .give-run .last .0)) by (old .give-run .ensures) in
-    let given : RunGiven n from (second .result) (levelWorth (a .new)) (old .give-run .last .0) (new .give-run2 .last .0) =
-    subst (λ w. RunGiven n from (second .result) w (old .give-run .last .0) (new .give-run2 .last .0)) (new .before .level-worth2 .ensures)
+    let given : RunGiven n from (second .result) (levelAmounts (a .new)) (old .give-run .last .0) (new .give-run2 .last .0) =
+    subst (λ w. RunGiven n from (second .result) w (old .give-run .last .0) (new .give-run2 .last .0)) (new .before .level-amounts2 .ensures)
     (new .give-run2 .ensures) in
     let shown : RowShown (new .give-run2 .last .0) (from + wide .result .first) (n + (from + wide .result .first)) (from + wide .result .first)
     (wide .result .past - wide .result .first) (a .values .now) (seen .round-row .last .0) (a .mattes .now) (seen .round-row .last .1 .0) =
@@ -134,15 +134,15 @@ mend-runs-spec =
     (tie.spec
     (λ c. search needs)
     mul-start
-    stretch-around-requires
-    stretch-around-requires-2
-    level-worth-requires
+    columns-around-requires
+    columns-around-requires-2
+    level-amounts-requires
     (λ c κs. search needs)
     give-run-requires
-    level-worth-requires-2
+    level-amounts-requires-2
     give-run-requires-2
     (λ c κs. search needs)
-    stretch-around-requires-3
+    columns-around-requires-3
     add-first
     (λ c κs. search needs)
     add-round-row

@@ -7,7 +7,7 @@ use lib.ListN.{getD}
 use borrow.Author.Needs.{needs}
 use Rattle.kernels_model.specs.Fixed.{level, secondBox, thirdBox}
 use Rattle.plate.specs.Passes.{Across, Added, BoxesMet, markAt}
-use Rattle.plate.proofs.showing.Writes.{later-cell}
+use Rattle.plate.proofs.laws.showing.Writes.{later-cell}
 use Rattle.plate.proofs.pass.add_boxes.Statement.{statement}
 use Rattle.plate.proofs.pass.add_boxes.Tie as tie
 

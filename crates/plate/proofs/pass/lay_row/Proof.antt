@@ -5,8 +5,8 @@ use lib.ListN.{length}
 use borrow.Author.Needs.{needs}
 use Rattle.kernels_model.specs.Fixed.{thirdBox}
 use Rattle.plate.specs.Passes.{InOrder, rowStart, risingCell}
-use Rattle.plate.proofs.showing.Writes.{Writing, writing-start, writing-all}
-use Rattle.plate.proofs.showing.RowSums.{laying-next}
+use Rattle.plate.proofs.laws.showing.Writes.{Writing, writing-start, writing-all}
+use Rattle.plate.proofs.laws.showing.RowSums.{laying-next}
 use Rattle.plate.proofs.pass.lay_row.Statement.{statement}
 use Rattle.plate.proofs.pass.lay_row.Tie as tie
 
@@ -71,11 +71,11 @@ loop-again : tie.Need-loop-again Inv-loop μ-loop
 loop-again c =
     let laid = c .before .before in
     let test = laid .before .before in
-    let turn = test .before .loop in
+    let iteration = test .before .loop in
     let pre = test .before .before .before .before .pre in (
       omega (arith, test .loop-test .taken),
-      laying-next _ _ (turn .scratch) _ _ _ _ _ _ (turn .x) _ (pre .rising-one) (omega (arith, pre))
-          (test .loop-test .taken) (turn .inv .1) (laid .add-marks .ensures),
+      laying-next _ _ (iteration .scratch) _ _ _ _ _ _ (iteration .x) _ (pre .rising-one) (omega (arith, pre))
+          (test .loop-test .taken) (iteration .inv .1) (laid .add-marks .ensures),
     )
 
 returns : tie.Need-returns Inv-loop μ-loop

@@ -8,33 +8,33 @@ use lib.ListN.{length}
 use borrow.Author.Needs.{needs}
 use borrow.Rule.Slice.PartMut.{putMid}
 use Rattle.plate.specs.Passes.{Starts, startsAt, sumsEnd, OnlySums}
-use Rattle.plate.proofs.numbers.Parts.{cleared-same, cleared-before, cleared-in, cleared-after}
-use Rattle.plate.proofs.showing.Starts.{in-order}
-use Rattle.plate.proofs.showing.RisingStart.{picture-on, LayReady, LaidFrom, laid-start, laid-next, laid-all, laid-from}
+use Rattle.plate.proofs.laws.numbers.Parts.{cleared-same, cleared-before, cleared-in, cleared-after}
+use Rattle.plate.proofs.laws.showing.Starts.{in-order}
+use Rattle.plate.proofs.laws.showing.RisingStart.{channel-on, LayReady, LaidFrom, laid-start, laid-next, laid-all, laid-from}
 use Rattle.plate.proofs.pass.start_sums.Statement.{statement}
 use Rattle.plate.proofs.pass.start_sums.Tie as tie
 
 abbrev Inv-loop : tie.InvT-loop
-Inv-loop scratch₀ planes picture first end row₀ scratch row = (row ≤ picture .high) × LaidFrom picture planes scratch₀ scratch row
+Inv-loop scratch₀ planes channel first end row₀ scratch row = (row ≤ channel .high) × LaidFrom channel planes scratch₀ scratch row
 
 abbrev μ-loop : tie.MeasureT-loop
-μ-loop scratch₀ planes picture first end row₀ scratch row = row
+μ-loop scratch₀ planes channel first end row₀ scratch row = row
 
 abbrev start : tie.After-starts-at Inv-loop μ-loop → tie.Start Inv-loop μ-loop
 start c = c .before .before .before
 
--- what is cleared are the picture's sums
+-- what is cleared are the channel's sums
 abbrev end : tie.After-starts-at Inv-loop μ-loop → ℕ
-end c = c .starts-at .result .down + start c .args .picture .columns
+end c = c .starts-at .result .down + start c .args .channel .columns
 
-end-is : (c : tie.After-starts-at Inv-loop μ-loop) → end c ≡ sumsEnd (start c .args .picture)
+end-is : (c : tie.After-starts-at Inv-loop μ-loop) → end c ≡ sumsEnd (start c .args .channel)
 unfolding startsAt
-end-is c = ap (λ (s : Starts). s .down + start c .args .picture .columns) (c .starts-at .ensures)
+end-is c = ap (λ (s : Starts). s .down + start c .args .channel .columns) (c .starts-at .ensures)
 
 end-in : (c : tie.After-starts-at Inv-loop μ-loop) → end c ≤ length (start c .args .scratch .now)
 end-in c = omega (arith, end-is c, start c .pre .sums-in)
 
-end-past : (c : tie.After-starts-at Inv-loop μ-loop) → start c .args .picture .sums ≤ end c
+end-past : (c : tie.After-starts-at Inv-loop μ-loop) → start c .args .channel .sums ≤ end c
 end-past c = omega (arith, end-is c)
 
 abbrev made : tie.After-clear Inv-loop μ-loop → tie.After-starts-at Inv-loop μ-loop
@@ -42,10 +42,10 @@ made c = c .before .before .before .before
 
 abbrev cleared : tie.After-clear Inv-loop μ-loop → List ℕ
 cleared c =
-    let p = start (made c) .args .picture in
+    let p = start (made c) .args .channel in
     putMid (p .sums) (end (made c) - p .sums) (start (made c) .args .scratch .now) (c .clear .last .0)
 
-only-sums : (c : tie.After-clear Inv-loop μ-loop) → OnlySums (start (made c) .args .picture) (start (made c) .args .scratch .now) (cleared c)
+only-sums : (c : tie.After-clear Inv-loop μ-loop) → OnlySums (start (made c) .args .channel) (start (made c) .args .scratch .now) (cleared c)
 only-sums c =
     let past = end-past (made c) in
     let in-all = end-in (made c) in
@@ -56,10 +56,10 @@ only-sums c =
     }
 
 ready : (c : tie.After-clear Inv-loop μ-loop)
-    → LayReady (start (made c) .args .picture) (cleared c) (start (made c) .args .planes .now)
+    → LayReady (start (made c) .args .channel) (cleared c) (start (made c) .args .planes .now)
 ready c =
     record {
-      fits = picture-on _ _ _ (start (made c) .pre) _ (only-sums c .same);
+      fits = channel-on _ _ _ (start (made c) .pre) _ (only-sums c .same);
       clear = λ j f g.
           cleared-in _ _ _ _ (end-past (made c)) (end-in (made c)) (c .clear .ensures) j f (omega (arith, end-is (made c)));
     }
@@ -84,27 +84,27 @@ loop-holds c = (search needs, laid-start _ _ _ (ready (c .before .before)))
 
 lay-row-requires : tie.Need-lay-row-requires Inv-loop μ-loop
 lay-row-requires c κs =
-    let turn = c .before .before .before .loop in
+    let iteration = c .before .before .before .loop in
     let same = only-sums (c .before .before .before .before .before .before) .same in
-    rw (c .starts-at2 .ensures) (in-order _ _ _ _ (omega arith) (omega arith) (omega (arith, turn .inv .1 .same, same)) (omega arith))
+    rw (c .starts-at2 .ensures) (in-order _ _ _ _ (omega arith) (omega arith) (omega (arith, iteration .inv .1 .same, same)) (omega arith))
 
 loop-again : tie.Need-loop-again Inv-loop μ-loop
 loop-again c =
     let laid = c .before .before in
-    let turn = laid .before .before .before .before .loop in
+    let iteration = laid .before .before .before .before .loop in
     let pre = start (made (laid .before .before .before .before .before .before .before)) .pre in
-    let e : turn .row - 1 + 1 ≡ turn .row = omega arith in (
+    let e : iteration .row - 1 + 1 ≡ iteration .row = omega arith in (
       omega arith,
-      laid-next _ _ _ (turn .scratch) _ (turn .row - 1) (pre .some) (pre .narrow) (omega arith) (rw (← e) at (turn .inv .1))
+      laid-next _ _ _ (iteration .scratch) _ (iteration .row - 1) (pre .some) (pre .narrow) (omega arith) (rw (← e) at (iteration .inv .1))
           (rw (laid .before .starts-at2 .ensures) at (laid .lay-row .ensures)),
     )
 
 returns : tie.Need-returns Inv-loop μ-loop
 returns c =
-    let turn = c .before .loop in
+    let iteration = c .before .loop in
     let clear = c .before .before .before .before in
-    let e : turn .row ≡ 0 = omega arith in
-    laid-from _ _ _ _ _ (only-sums clear) (laid-all _ _ _ _ (ready clear) (rw e at (turn .inv .1)))
+    let e : iteration .row ≡ 0 = omega arith in
+    laid-from _ _ _ _ _ (only-sums clear) (laid-all _ _ _ _ (ready clear) (rw e at (iteration .inv .1)))
 
 pub start-sums-spec : {M : Type 1} → statement M
 start-sums-spec =

@@ -5,18 +5,18 @@ use Prim.Native.Nat.{_+_, _*_, _-_, _%_, _≤_}
 use native.Mathlib.Omega.{arith}
 use Rattle.plate.specs.Passes.{startsAt, twoLines}
 use Rattle.plate_model.proofs.numbers.Extents.{row-in}
-use Rattle.plate.proofs.showing.Starts.{side-le}
+use Rattle.plate.proofs.laws.showing.Starts.{side-le}
 use Rattle.plate.proofs.pass.starts_at.Statement.{statement}
 use Rattle.plate.proofs.pass.starts_at.Tie as tie
 
 -- the lines of a row that go 2 rows a column are the first or the second
-row-side : (c : tie.Start) → (c .args .row % 2) * twoLines (c .args .picture) ≤ twoLines (c .args .picture)
-row-side c = side-le (c .args .row) (twoLines (c .args .picture))
+row-side : (c : tie.Start) → (c .args .row % 2) * twoLines (c .args .channel) ≤ twoLines (c .args .channel)
+row-side c = side-le (c .args .row) (twoLines (c .args .channel))
 
 -- a row's marks are in a plane
 marks-in : (c : tie.Start)
-    → c .args .row * c .args .picture .wide + c .args .picture .wide ≤ c .args .picture .wide * c .args .picture .high
-marks-in c = row-in (c .args .row) (c .args .picture .wide) (c .args .picture .high) (c .pre .0)
+    → c .args .row * c .args .channel .wide + c .args .channel .wide ≤ c .args .channel .wide * c .args .channel .high
+marks-in c = row-in (c .args .row) (c .args .channel .wide) (c .args .channel .high) (c .pre .0)
 
 add-half : tie.Need-add-half
 add-half c = omega (arith, c .pre)

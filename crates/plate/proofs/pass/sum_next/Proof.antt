@@ -1,8 +1,8 @@
 -- `pass::sum_next` meets its contract: the row is summed where its sums lie.
 use native.Mathlib.Omega.{arith}
 use borrow.Author.Needs.{needs}
-use Rattle.plate.proofs.showing.Starts.{in-order}
-use Rattle.plate.proofs.showing.NextRow.{summed-next}
+use Rattle.plate.proofs.laws.showing.Starts.{in-order}
+use Rattle.plate.proofs.laws.showing.NextRow.{summed-next}
 use Rattle.plate.proofs.pass.sum_next.Statement.{statement}
 use Rattle.plate.proofs.pass.sum_next.Tie as tie
 

@@ -5,8 +5,8 @@ use lib.ListN.{length}
 use borrow.Author.Needs.{needs}
 use Rattle.kernels_model.specs.Fixed.{thirdBox}
 use Rattle.plate.specs.Passes.{Starts, InOrder}
-use Rattle.plate.proofs.showing.Writes.{writing-all}
-use Rattle.plate.proofs.showing.RowSums.{SummingAt, summing-start, summing-next}
+use Rattle.plate.proofs.laws.showing.Writes.{writing-all}
+use Rattle.plate.proofs.laws.showing.RowSums.{SummingAt, summing-start, summing-next}
 use Rattle.plate.proofs.pass.sum_row.Statement.{statement}
 use Rattle.plate.proofs.pass.sum_row.Tie as tie
 
@@ -146,10 +146,10 @@ loop-again c =
     let falling = risen rising in
     let boxes = fallen falling in
     let test = boxed boxes in
-    let turn = test .before .loop in
+    let iteration = test .before .loop in
     let start = test .before .before .before .before in (
       omega (arith, test .loop-test .taken),
-      summing-next _ _ (turn .scratch) _ _ _ _ _ _ _ (turn .x) _ _ _ _ _ _ (start .pre) (test .loop-test .taken) (turn .inv .1)
+      summing-next _ _ (iteration .scratch) _ _ _ _ _ _ _ (iteration .x) _ _ _ _ _ _ (start .pre) (test .loop-test .taken) (iteration .inv .1)
           (boxes .add-boxes .ensures) (falling .add-marks .ensures) (rising .take-marks-off .ensures)
           (down .before .add-three .ensures) (down .add-to .ensures),
     )

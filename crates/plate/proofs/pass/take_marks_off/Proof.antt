@@ -6,7 +6,7 @@ use native.Mathlib.Omega.{arith}
 use lib.ListN.{getD, set, length-set}
 use borrow.Author.Needs.{needs}
 use Rattle.plate.specs.Passes.{MarksOff}
-use Rattle.plate.proofs.numbers.Wraps.{wrap-off}
+use Rattle.plate.proofs.laws.numbers.Wraps.{wrap-off}
 use Rattle.plate.proofs.pass.take_marks_off.Statement.{statement}
 use Rattle.plate.proofs.pass.take_marks_off.Tie as tie
 

@@ -4,7 +4,7 @@ use native.Mathlib.Omega.{arith}
 use denote.Ref.{now}
 use borrow.Author.Needs.{needs}
 use Rattle.plate_model.specs.declared.lent.Ask.{Ask}
-use Rattle.plate_model.specs.Lent.{Lent, lent, sizedAs, ask}
+use Rattle.plate_model.specs.Lent.{Lent, lent, lengthsOf, ask}
 use Rattle.plate_model.specs.declared.change.ChangeRead.the-variants.{ToChange}
 use Rattle.plate_model.specs.Change.{putRead}
 use Rattle.plate_model.specs.Calls.{putBy, putCall}
@@ -25,7 +25,7 @@ asked s = let a = s .args in ask (a .x) (a .y) (a .value) (a .opacity) (a .shape
 -- the change that was read
 reads : (c : tie.After-change)
     → let s = start (c .before .before) in
-    putRead (s .args .state) (asked s) (sizedAs (held s)) (held s .pixels) ≡ ToChange (c .change .given .0 .0)
+    putRead (s .args .state) (asked s) (lengthsOf (held s)) (held s .pixels) ≡ ToChange (c .change .given .0 .0)
 reads c = sym (c .before .before .read-put .ensures) ∙ c .change .given .1
 
 log-and-exchange-requires : tie.Need-log-and-exchange-requires

@@ -8,7 +8,7 @@ use borrow.Author.Count.{below-more}
 use borrow.Author.Needs.{needs}
 use Rattle.plate_model.specs.Refusal.{isBetween}
 use Rattle.plate_model.proofs.numbers.Extents.{row-in}
-use Rattle.plate.proofs.checks.Scans.{NoneTo, SmallTo, small-all, none-found, one-found}
+use Rattle.plate.proofs.laws.checks.Scans.{NoneTo, SmallTo, small-all, none-found, one-found}
 use Rattle.plate_model.proofs.checks.Conditions.{true-not}
 use Rattle.plate.proofs.scan.depth_between.Statement.{statement}
 use Rattle.plate.proofs.scan.depth_between.Tie as tie
@@ -44,8 +44,8 @@ mul-start c = omega (arith, row (c .before))
 
 loop-holds : tie.Need-loop-holds Inv-loop μ-loop Inv-rows μ-rows
 loop-holds c =
-    let turn = c .before .before .rows .inv in
-    (search needs, turn .1, (λ i l. turn .2 i (omega arith)), λ i l. turn .3 i (omega arith))
+    let iteration = c .before .before .rows .inv in
+    (search needs, iteration .1, (λ i l. iteration .2 i (omega arith)), λ i l. iteration .3 i (omega arith))
 
 add-lies-between : tie.Need-add-lies-between Inv-loop μ-loop Inv-rows μ-rows
 add-lies-between c = omega (arith, row (c .before .before .before))
@@ -60,41 +60,41 @@ loop-again : tie.Need-loop-again Inv-loop μ-loop Inv-rows μ-rows
 loop-again c =
     let asked = c .before in
     let told = asked .lies-between .ensures in
-    let turn = asked .before .before .before .loop .inv in (
+    let iteration = asked .before .before .before .loop .inv in (
       omega arith,
-      turn .1,
-      (λ i l. below-more _ _ (turn .2) (sym (told .0) ∙ c .if1 .left) i (omega arith)),
-      λ i l. below-more _ _ (turn .3) (told .1) i (omega arith),
+      iteration .1,
+      (λ i l. below-more _ _ (iteration .2) (sym (told .0) ∙ c .if1 .left) i (omega arith)),
+      λ i l. below-more _ _ (iteration .3) (told .1) i (omega arith),
     )
 
 rows-again : tie.Need-rows-again Inv-loop μ-loop Inv-rows μ-rows
 rows-again c =
-    let turn = c .before .loop .inv in
-    (omega arith, turn .1, (λ i l. turn .2 i (omega arith)), λ i l. turn .3 i (omega arith))
+    let iteration = c .before .loop .inv in
+    (omega arith, iteration .1, (λ i l. iteration .2 i (omega arith)), λ i l. iteration .3 i (omega arith))
 
 returns : tie.Need-returns Inv-loop μ-loop Inv-rows μ-rows
 returns c =
-    let turn = c .before .rows in
+    let iteration = c .before .rows in
     let start = c .before .before .before in
     let a = start .args in
     let z = a .size in (
-      turn .inv .1
-          ∙ sym (none-found (isBetween (a .above) (a .most)) _ (z .width) (z .height) (turn .y) (start .pre) (c .rows-test .left)
-          (turn .inv .2)),
-      λ e. small-all (a .depths .now) (z .width) (z .height) (turn .y) (start .pre) (c .rows-test .left) (turn .inv .3),
+      iteration .inv .1
+          ∙ sym (none-found (isBetween (a .above) (a .most)) _ (z .width) (z .height) (iteration .y) (start .pre) (c .rows-test .left)
+          (iteration .inv .2)),
+      λ e. small-all (a .depths .now) (z .width) (z .height) (iteration .y) (start .pre) (c .rows-test .left) (iteration .inv .3),
     )
 
 returns-2 : tie.Need-returns-2 Inv-loop μ-loop Inv-rows μ-rows
 returns-2 c =
     let asked = c .before in
-    let turn = asked .before .before in
-    let rows = turn .before .before .before in
+    let iteration = asked .before .before in
+    let rows = iteration .before .before .before in
     let start = rows .before .before .before in
     let a = start .args in
     let z = a .size in (
-      sym (one-found (isBetween (a .above) (a .most)) _ (z .width) (z .height) (turn .before .loop .x) (rows .before .rows .y)
+      sym (one-found (isBetween (a .above) (a .most)) _ (z .width) (z .height) (iteration .before .loop .x) (rows .before .rows .y)
           (start .pre)
-          (turn .loop-test .taken)
+          (iteration .loop-test .taken)
           (rows .rows-test .taken)
           (sym (asked .lies-between .ensures .0) ∙ c .if1 .taken)),
       λ e. true-not e,

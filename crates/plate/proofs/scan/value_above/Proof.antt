@@ -9,7 +9,7 @@ use borrow.Author.Count.{below-more}
 use borrow.Author.Tests.{lt-ltb, le-ltb}
 use borrow.Author.Needs.{needs}
 use Rattle.plate_model.proofs.numbers.Extents.{row-in}
-use Rattle.plate.proofs.checks.Scans.{NoneTo, none-found, one-found}
+use Rattle.plate.proofs.laws.checks.Scans.{NoneTo, none-found, one-found}
 use Rattle.plate.proofs.scan.value_above.Statement.{statement}
 use Rattle.plate.proofs.scan.value_above.Tie as tie
 use Rattle.kernels_model.specs.Fixed.{valueTop}
@@ -56,31 +56,31 @@ shared-slice-read-if1 c = omega (arith, row (c .before .before .before .before))
 
 loop-again : tie.Need-loop-again Inv-loop μ-loop Inv-rows μ-rows
 loop-again c =
-    let turn = c .before .before .before .loop in
-    (omega arith, turn .inv .1, λ i l. below-more _ _ (turn .inv .2) (le-ltb _ _ (c .if1 .left)) i (omega arith))
+    let iteration = c .before .before .before .loop in
+    (omega arith, iteration .inv .1, λ i l. below-more _ _ (iteration .inv .2) (le-ltb _ _ (c .if1 .left)) i (omega arith))
 
 rows-again : tie.Need-rows-again Inv-loop μ-loop Inv-rows μ-rows
 rows-again c =
-    let turn = c .before .loop in
-    (omega arith, turn .inv .1, λ i l. turn .inv .2 i (omega arith))
+    let iteration = c .before .loop in
+    (omega arith, iteration .inv .1, λ i l. iteration .inv .2 i (omega arith))
 
 returns : tie.Need-returns Inv-loop μ-loop Inv-rows μ-rows
 returns c =
-    let turn = c .before .rows in
+    let iteration = c .before .rows in
     let start = c .before .before in
     let z = start .args .size in
-    turn .inv .1
-    ∙ sym (none-found (ltb valueTop) _ (z .width) (z .height) (turn .y) (start .pre) (c .rows-test .left) (turn .inv .2))
+    iteration .inv .1
+    ∙ sym (none-found (ltb valueTop) _ (z .width) (z .height) (iteration .y) (start .pre) (c .rows-test .left) (iteration .inv .2))
 
 returns-2 : tie.Need-returns-2 Inv-loop μ-loop Inv-rows μ-rows
 returns-2 c =
-    let turn = c .before .before in
-    let rows = turn .before .before .before in
+    let iteration = c .before .before in
+    let rows = iteration .before .before .before in
     let start = rows .before .before in
     let z = start .args .size in
-    sym (one-found (ltb valueTop) _ (z .width) (z .height) (turn .before .loop .x) (rows .before .rows .y)
+    sym (one-found (ltb valueTop) _ (z .width) (z .height) (iteration .before .loop .x) (rows .before .rows .y)
     (start .pre)
-    (turn .loop-test .taken)
+    (iteration .loop-test .taken)
     (rows .rows-test .taken)
     (lt-ltb _ _ (c .if1 .taken)))
 

@@ -1,7 +1,7 @@
--- `show::lay_both` meets its contract: each picture has its own cells.
+-- `show::lay_both` meets its contract: each channel has its own cells.
 use native.Mathlib.Omega.{arith}
 use borrow.Author.Needs.{needs}
-use Rattle.plate.proofs.showing.BothPictures.{matte-in, both-summed}
+use Rattle.plate.proofs.laws.showing.BothChannels.{matte-in, both-summed}
 use Rattle.plate.proofs.show.lay_both.Statement.{statement}
 use Rattle.plate.proofs.show.lay_both.Tie as tie
 

@@ -5,7 +5,7 @@ use lib.ListN.{getD}
 use borrow.Author.Needs.{needs}
 use Rattle.kernels_model.specs.Rounding.{shownValue, shownMatte}
 use Rattle.plate.specs.Showing.{RowIn}
-use Rattle.plate.proofs.showing.Writes.{Writing, writing-start, writing-one, writing-all}
+use Rattle.plate.proofs.laws.showing.Writes.{Writing, writing-start, writing-one, writing-all}
 use Rattle.plate.proofs.show.round_row.Statement.{statement}
 use Rattle.plate.proofs.show.round_row.Tie as tie
 
@@ -27,11 +27,11 @@ start c = c .before .before .before .before .before
 -- there is room for one more column
 here : (c : tie.In-loop Inv-loop μ-loop)
     → let a = start c .args in
-    let turn = c .before .loop in
-    RowIn (a .scratch .now) (turn .values) (turn .mattes) (a .light) (a .matte) (a .first) (turn .x + 1)
+    let iteration = c .before .loop in
+    RowIn (a .scratch .now) (iteration .values) (iteration .mattes) (a .light) (a .matte) (a .first) (iteration .x + 1)
 here c =
-    let turn = c .before .loop in
-    omega (arith, c .loop-test .taken, start c .pre, turn .inv .1 .same, turn .inv .2 .same)
+    let iteration = c .before .loop in
+    omega (arith, c .loop-test .taken, start c .pre, iteration .inv .1 .same, iteration .inv .2 .same)
 
 add-place : tie.Need-add-place Inv-loop μ-loop
 add-place c = omega (arith, here c, start c .good)
@@ -73,19 +73,19 @@ loop-again : tie.Need-loop-again Inv-loop μ-loop
 loop-again c =
     let valued = c .before in
     let test = valued .before .before .before in
-    let turn = test .before .loop in
+    let iteration = test .before .loop in
     let pre = start test .pre in (
       omega (arith, test .loop-test .taken),
-      writing-one _ _ _ _ (turn .values) (turn .x) _ (test .loop-test .taken) (pre .values-in) (turn .inv .1) (valued .shown-value .ensures),
-      writing-one _ _ _ _ (turn .mattes) (turn .x) _ (test .loop-test .taken) (pre .mattes-in) (turn .inv .2) (c .shown-matte .ensures),
+      writing-one _ _ _ _ (iteration .values) (iteration .x) _ (test .loop-test .taken) (pre .values-in) (iteration .inv .1) (valued .shown-value .ensures),
+      writing-one _ _ _ _ (iteration .mattes) (iteration .x) _ (test .loop-test .taken) (pre .mattes-in) (iteration .inv .2) (c .shown-matte .ensures),
     )
 
 returns : tie.Need-returns Inv-loop μ-loop
 returns c =
-    let turn = c .before .loop in
+    let iteration = c .before .loop in
     record {
-      in-values = writing-all _ _ _ _ _ _ (turn .x) (omega arith) (turn .inv .1);
-      in-mattes = writing-all _ _ _ _ _ _ (turn .x) (omega arith) (turn .inv .2);
+      in-values = writing-all _ _ _ _ _ _ (iteration .x) (omega arith) (iteration .inv .1);
+      in-mattes = writing-all _ _ _ _ _ _ (iteration .x) (omega arith) (iteration .inv .2);
     }
 
 pub round-row-spec : {M : Type 1} → statement M

@@ -6,7 +6,7 @@ use borrow.Author.Needs.{needs}
 use Rattle.plate_model.specs.declared.state.Outcome.the-variants.{Accepted}
 use Rattle.plate_model.specs.Refusal.{showCheck}
 use Rattle.plate_model.specs.Calls.{showBy, showCall}
-use Rattle.plate.proofs.showing.Image.{show-ready}
+use Rattle.plate.proofs.laws.showing.Image.{show-ready}
 use Rattle.plate.proofs.show.show.Statement.{statement}
 use Rattle.plate.proofs.show.show.Tie as tie
 

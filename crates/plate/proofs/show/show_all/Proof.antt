@@ -2,21 +2,21 @@
 use mathlib.Core.Path.{ap}
 use native.Mathlib.Omega.{arith}
 use borrow.Author.Needs.{needs}
-use Rattle.plate.specs.Passes.{Picture}
+use Rattle.plate.specs.Passes.{Channel}
 use Rattle.plate.specs.Showing.{BothIn}
-use Rattle.plate.proofs.showing.BothPictures.{both-on}
-use Rattle.plate.proofs.showing.Image.{ready-both, all-shown}
+use Rattle.plate.proofs.laws.showing.BothChannels.{both-on}
+use Rattle.plate.proofs.laws.showing.Image.{ready-both, all-shown}
 use Rattle.plate.proofs.show.show_all.Statement.{statement}
 use Rattle.plate.proofs.show.show_all.Tie as tie
 
-abbrev start : tie.After-light-picture → tie.Start
+abbrev start : tie.After-light-channel → tie.Start
 start c = c .before .before .before .before .before .before
 
-fits : (c : tie.After-light-picture) → BothIn (c .light-picture .result) (start c .args .scratch .now) (start c .args .planes .now)
-fits c = ready-both _ _ _ _ (c .light-picture .ensures) (start c .pre .sums)
+fits : (c : tie.After-light-channel) → BothIn (c .light-channel .result) (start c .args .scratch .now) (start c .args .planes .now)
+fits c = ready-both _ _ _ _ (c .light-channel .ensures) (start c .pre .sums)
 
-light-picture-requires : tie.Need-light-picture-requires
-light-picture-requires c κs = c .before .before .before .before .before .pre .sums .lawful
+light-channel-requires : tie.Need-light-channel-requires
+light-channel-requires c κs = c .before .before .before .before .before .pre .sums .lawful
 
 add-t9 : tie.Need-add-t9
 add-t9 c = omega (arith, start (c .before) .pre .sums .lawful .reach-top)
@@ -24,15 +24,15 @@ add-t9 c = omega (arith, start (c .before) .pre .sums .lawful .reach-top)
 sum-above-requires : tie.Need-sum-above-requires
 sum-above-requires c κs =
     let made = c .before .before in
-    let high = ap (λ (p : Picture). p .high) (made .light-picture .ensures) in
+    let high = ap (λ (p : Channel). p .high) (made .light-channel .ensures) in
     record { fits = fits made; low = omega (arith, high, start made .pre) }
 
 show-rows-requires : tie.Need-show-rows-requires
 show-rows-requires c κs =
     let summed = c .before .before .before .before .before in
     let made = summed .before .before .before in
-    let columns = ap (λ (p : Picture). p .columns) (made .light-picture .ensures) in
-    let high = ap (λ (p : Picture). p .high) (made .light-picture .ensures) in
+    let columns = ap (λ (p : Channel). p .columns) (made .light-channel .ensures) in
+    let high = ap (λ (p : Channel). p .high) (made .light-channel .ensures) in
     record {
       fits = both-on _ _ _ (fits made) _ (summed .sum-above .ensures .same);
       to = summed .sum-above .ensures .to;
@@ -53,14 +53,14 @@ returns c =
     (omega (arith, seen .scratch2 .given, summed .sum-above .ensures .same))
     (omega (arith, seen .before .before .before .before .values .given))
     (omega (arith, seen .before .before .mattes .given))
-    (rw (made .light-picture .ensures) at (shown .show-rows .ensures))
+    (rw (made .light-channel .ensures) at (shown .show-rows .ensures))
     (cleared .clear .ensures)
 
 pub show-all-spec : {M : Type 1} → statement M
 show-all-spec =
     tie.close
     (tie.spec
-    light-picture-requires
+    light-channel-requires
     add-t9
     sum-above-requires
     show-rows-requires

@@ -6,8 +6,8 @@ use native.Mathlib.Omega.{arith}
 use borrow.Author.Needs.{needs}
 use Rattle.plate.specs.Passes.{sumsEnd}
 use Rattle.plate_model.proofs.numbers.Extents.{row-in}
-use Rattle.plate.proofs.showing.BothPictures.{both-on, matte-sums}
-use Rattle.plate.proofs.showing.Image.{row-finished, ShowingAt, showing-start, shown-next}
+use Rattle.plate.proofs.laws.showing.BothChannels.{both-on, matte-sums}
+use Rattle.plate.proofs.laws.showing.Image.{row-finished, ShowingAt, showing-start, shown-next}
 use Rattle.plate.proofs.show.show_rows.Statement.{statement}
 use Rattle.plate.proofs.show.show_rows.Tie as tie
 
@@ -102,27 +102,27 @@ loop-again c =
     let summed = shown .before .before .before .before .before .before in
     let test = summed .before .before in
     let pre = start (made test) .pre in
-    let turn = test .before .loop in
-    let now = turn .inv .1 in
+    let iteration = test .before .loop in
+    let now = iteration .inv .1 in
     let sums = summed .sum-both .ensures in
     let from = sums-is (made test) in
     let first = start (made test) .args .image .first in
-    let e : first + (turn .row + 1) ≡ first + turn .row + 1 = omega arith in (
+    let e : first + (iteration .row + 1) ≡ first + iteration .row + 1 = omega arith in (
       omega (arith, test .loop-test .taken),
       record {
         same-values = shown .round-row .ensures .in-values .same ∙ now .same-values;
         same-mattes = shown .round-row .ensures .in-mattes .same ∙ now .same-mattes;
         both = record { same = sums .same ∙ now .both .same; to = rw e (sums .to) };
-        done = shown-next _ _ _ _ _ _ _ _ (turn .row) _ _ (row-finished _ _ _ _ (turn .row) _ _ (pre .columns-are) (sums .to)
+        done = shown-next _ _ _ _ _ _ _ _ (iteration .row) _ _ (row-finished _ _ _ _ (iteration .row) _ _ (pre .columns-are) (sums .to)
             (omega (arith, from, pre .columns-are)) (omega (arith, from, pre .columns-are))) (now .done) (shown .round-row .ensures);
       },
     )
 
 returns : tie.Need-returns Inv-loop μ-loop
 returns c =
-    let turn = c .before .loop in
-    let e : turn .row ≡ start (c .before .before .before) .args .image .height = omega arith in
-    rw e at (turn .inv .1 .done)
+    let iteration = c .before .loop in
+    let e : iteration .row ≡ start (c .before .before .before) .args .image .height = omega arith in
+    rw e at (iteration .inv .1 .done)
 
 pub show-rows-spec : {M : Type 1} → statement M
 show-rows-spec =

@@ -4,7 +4,7 @@ use Prim.Native.Nat.{_-_, _≤_}
 use native.Mathlib.Omega.{arith}
 use borrow.Author.Needs.{needs}
 use Rattle.plate.specs.Showing.{BothSummed}
-use Rattle.plate.proofs.showing.BothPictures.{both-on}
+use Rattle.plate.proofs.laws.showing.BothChannels.{both-on}
 use Rattle.plate.proofs.show.sum_above.Statement.{statement}
 use Rattle.plate.proofs.show.sum_above.Tie as tie
 
@@ -28,11 +28,11 @@ loop-holds c = (search needs, record { same = refl; to = c .before .before .lay-
 
 sum-both-requires : tie.Need-sum-both-requires Inv-loop μ-loop
 sum-both-requires c κs =
-    let turn = c .before .before in
-    let pre = start (laid turn) .pre in
-    let sums = turn .loop .inv .1 in
+    let iteration = c .before .before in
+    let pre = start (laid iteration) .pre in
+    let sums = iteration .loop .inv .1 in
     record {
-      fits = both-on _ _ _ (pre .fits) _ (sums .same ∙ laid turn .lay-both .ensures .same);
+      fits = both-on _ _ _ (pre .fits) _ (sums .same ∙ laid iteration .lay-both .ensures .same);
       low = omega (arith, c .before .loop-test .taken, pre .low);
       to = sums .to;
     }
@@ -54,10 +54,10 @@ loop-again c =
 
 returns : tie.Need-returns Inv-loop μ-loop
 returns c =
-    let turn = c .before in
-    let e : turn .loop .row ≡ start (laid turn) .args .rows = omega arith in
-    let sums = rw e at (turn .loop .inv .1) in
-    record { same = sums .same ∙ laid turn .lay-both .ensures .same; to = sums .to }
+    let iteration = c .before in
+    let e : iteration .loop .row ≡ start (laid iteration) .args .rows = omega arith in
+    let sums = rw e at (iteration .loop .inv .1) in
+    record { same = sums .same ∙ laid iteration .lay-both .ensures .same; to = sums .to }
 
 pub sum-above-spec : {M : Type 1} → statement M
 sum-above-spec =

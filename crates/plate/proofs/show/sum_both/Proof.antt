@@ -1,7 +1,7 @@
--- `show::sum_both` meets its contract: what sums the one picture leaves the other.
+-- `show::sum_both` meets its contract: what sums the one channel leaves the other.
 use native.Mathlib.Omega.{arith}
 use borrow.Author.Needs.{needs}
-use Rattle.plate.proofs.showing.BothPictures.{light-in, matte-in, matte-kept, both-summed}
+use Rattle.plate.proofs.laws.showing.BothChannels.{light-in, matte-in, matte-kept, both-summed}
 use Rattle.plate.proofs.show.sum_both.Statement.{statement}
 use Rattle.plate.proofs.show.sum_both.Tie as tie
 

@@ -46,14 +46,14 @@ loop-again : tie.Need-loop-again Inv-loop μ-loop
 unfolding sumOf
 loop-again c =
     let test = c .before .before in
-    let turn = test .before .loop in
-    (omega (arith, test .loop-test .taken), rw (add-one (turn .x)) (omega (arith, c .wrapping-add-u64 .ensures, turn .inv .1)))
+    let iteration = test .before .loop in
+    (omega (arith, test .loop-test .taken), rw (add-one (iteration .x)) (omega (arith, c .wrapping-add-u64 .ensures, iteration .inv .1)))
 
 returns : tie.Need-returns Inv-loop μ-loop
 returns c =
-    let turn = c .before .loop in
-    let e : turn .x ≡ c .before .before .before .args .count = omega arith in
-    rw e at (turn .inv .1)
+    let iteration = c .before .loop in
+    let e : iteration .x ≡ c .before .before .before .args .count = omega arith in
+    rw e at (iteration .inv .1)
 
 pub add-cells-spec : {M : Type 1} → statement M
 add-cells-spec =

@@ -5,19 +5,19 @@ use Prim.Native.Nat.{_-_, _≤_}
 use native.Mathlib.Omega.{arith}
 use lib.ListN.{length}
 use borrow.Author.Needs.{needs}
-use Rattle.plate.specs.Passes.{Picture, Starts, downFrom, startsAt, SummedTo}
-use Rattle.plate.specs.Totalling.{wholePicture, AddedUp}
-use Rattle.plate.proofs.showing.RisingStart.{picture-on}
-use Rattle.plate.proofs.showing.Totals.{added-start, added-next}
+use Rattle.plate.specs.Passes.{Channel, Starts, downFrom, startsAt, SummedTo}
+use Rattle.plate.specs.Totalling.{wholeChannel, AddedUp}
+use Rattle.plate.proofs.laws.showing.RisingStart.{channel-on}
+use Rattle.plate.proofs.laws.showing.Totals.{added-start, added-next}
 use Rattle.plate.proofs.total.add_up.Statement.{statement}
 use Rattle.plate.proofs.total.add_up.Tie as tie
 
 abbrev Inv-loop : tie.InvT-loop
-Inv-loop scratch₀ planes marks columns high picture down sum₀ row₀ scratch sum row =
-    (row ≤ high) × (AddedUp picture planes scratch₀ scratch row sum × SummedTo picture planes scratch row)
+Inv-loop scratch₀ planes marks columns high channel down sum₀ row₀ scratch sum row =
+    (row ≤ high) × (AddedUp channel planes scratch₀ scratch row sum × SummedTo channel planes scratch row)
 
 abbrev μ-loop : tie.MeasureT-loop
-μ-loop scratch₀ planes marks columns high picture down sum₀ row₀ scratch sum row = high - row
+μ-loop scratch₀ planes marks columns high channel down sum₀ row₀ scratch sum row = high - row
 
 abbrev laid : tie.After-starts-at Inv-loop μ-loop → tie.After-start-sums Inv-loop μ-loop
 laid c = c .before .before .before
@@ -25,11 +25,11 @@ laid c = c .before .before .before
 abbrev start : tie.After-starts-at Inv-loop μ-loop → tie.Start Inv-loop μ-loop
 start c = laid c .before .before .before .before
 
-abbrev picture : tie.After-starts-at Inv-loop μ-loop → Picture
-picture c = wholePicture (start c .args .frame) (start c .args .marks)
+abbrev channel : tie.After-starts-at Inv-loop μ-loop → Channel
+channel c = wholeChannel (start c .args .frame) (start c .args .marks)
 
 -- where the finished cells of a row lie
-down-is : (c : tie.After-starts-at Inv-loop μ-loop) → c .starts-at .result .down ≡ downFrom (picture c)
+down-is : (c : tie.After-starts-at Inv-loop μ-loop) → c .starts-at .result .down ≡ downFrom (channel c)
 unfolding startsAt
 down-is c = ap (λ (s : Starts). s .down) (c .starts-at .ensures)
 
@@ -42,18 +42,18 @@ loop-holds c = (search needs, (added-start _ _ _, laid c .start-sums .ensures .t
 
 sum-next-requires : tie.Need-sum-next-requires Inv-loop μ-loop
 sum-next-requires c κs =
-    let turn = c .before .before in
+    let iteration = c .before .before in
     record {
-      fits = picture-on _ _ _ (start (turn .before) .pre) _ (same-as turn);
+      fits = channel-on _ _ _ (start (iteration .before) .pre) _ (same-as iteration);
       low = c .before .loop-test .taken;
-      to = turn .loop .inv .1 .1;
+      to = iteration .loop .inv .1 .1;
     }
 
 add-cells-requires : tie.Need-add-cells-requires Inv-loop μ-loop
 add-cells-requires c κs =
     let summed = c .before .before .before in
-    let turn = summed .before .before .before in
-    omega (arith, down-is (turn .before), summed .sum-next .ensures .only .same, same-as turn, start (turn .before) .pre .sums-in)
+    let iteration = summed .before .before .before in
+    omega (arith, down-is (iteration .before), summed .sum-next .ensures .only .same, same-as iteration, start (iteration .before) .pre .sums-in)
 
 add-row : tie.Need-add-row Inv-loop μ-loop
 add-row c =
@@ -67,12 +67,12 @@ loop-again : tie.Need-loop-again Inv-loop μ-loop
 loop-again c =
     let summed = c .before .before .before .before in
     let test = summed .before .before in
-    let turn = test .before in
+    let iteration = test .before in
     let sums = summed .sum-next .ensures in (
       omega (arith, test .loop-test .taken),
       (
-        added-next _ _ _ (turn .loop .scratch) _ (turn .loop .row) (turn .loop .sum) _ _ (turn .loop .inv .1 .0) (sums .only .same) (sums .to)
-            (down-is (turn .before)) (c .add-cells .ensures),
+        added-next _ _ _ (iteration .loop .scratch) _ (iteration .loop .row) (iteration .loop .sum) _ _ (iteration .loop .inv .1 .0) (sums .only .same) (sums .to)
+            (down-is (iteration .before)) (c .add-cells .ensures),
         sums .to,
       ),
     )
@@ -82,10 +82,10 @@ same-length c = same-as (c .before)
 
 returns : tie.Need-returns Inv-loop μ-loop
 returns c =
-    let turn = c .before in
-    let e : turn .loop .row ≡ start (turn .before) .args .frame .high = omega arith in
-    let all = rw e at (turn .loop .inv .1 .0) in
-    record { same = same-as turn; sum-is = all .sum-is }
+    let iteration = c .before in
+    let e : iteration .loop .row ≡ start (iteration .before) .args .frame .high = omega arith in
+    let all = rw e at (iteration .loop .inv .1 .0) in
+    record { same = same-as iteration; sum-is = all .sum-is }
 
 pub add-up-spec : {M : Type 1} → statement M
 add-up-spec =

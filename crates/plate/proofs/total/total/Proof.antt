@@ -6,7 +6,7 @@ use borrow.Author.Needs.{needs}
 use Rattle.plate_model.specs.declared.state.Outcome.the-variants.{Accepted}
 use Rattle.plate_model.specs.Refusal.{totalCheck}
 use Rattle.plate_model.specs.Total.{totalBy, totalCall}
-use Rattle.plate.proofs.showing.Totals.{total-ready}
+use Rattle.plate.proofs.laws.showing.Totals.{total-ready}
 use Rattle.plate.proofs.total.total.Statement.{statement}
 use Rattle.plate.proofs.total.total.Tie as tie
 

@@ -1,4 +1,4 @@
--- `total::total_all` meets its contract: each picture is whole, and the scratch is cleared at the end.
+-- `total::total_all` meets its contract: each channel is whole, and the scratch is cleared at the end.
 use mathlib.Core.Path.{_≡_, ap, _∙_}
 use Prim.Native.Nat.{_*_}
 use native.Mathlib.Omega.{arith}
@@ -7,8 +7,8 @@ use Rattle.kernels_model.specs.Fixed.{planesEach}
 use Rattle.plate_model.specs.Layout.{padded}
 use Rattle.plate.specs.Frame.{Frame}
 use Rattle.plate_model.proofs.numbers.Extents.{padded-small}
-use Rattle.plate.proofs.showing.RisingStart.{picture-on}
-use Rattle.plate.proofs.showing.Totals.{ready-whole, held-is, all-totalled}
+use Rattle.plate.proofs.laws.showing.RisingStart.{channel-on}
+use Rattle.plate.proofs.laws.showing.Totals.{ready-whole, held-is, all-totalled}
 use Rattle.plate.proofs.total.total_all.Statement.{statement}
 use Rattle.plate.proofs.total.total_all.Tie as tie
 
@@ -39,7 +39,7 @@ add-up-requires-2 : tie.Need-add-up-requires-2
 add-up-requires-2 c κs =
     let one = c .before .before .before .before in
     let framed = one .before .before in
-    picture-on _ _ _
+    channel-on _ _ _
     (ready-whole _ _ _ planesEach _ _ (omega arith) (start framed .pre) (framed .frame-of .ensures) (matte-from framed)) _
     (one .add-up .ensures .same)
 

@@ -2,7 +2,7 @@
 use mathlib.Core.Path.{_≡_, sym, _∙_}
 use denote.Ref.{now}
 use borrow.Author.Needs.{needs}
-use Rattle.plate_model.specs.Lent.{Lent, lent, sizedAs}
+use Rattle.plate_model.specs.Lent.{Lent, lent, lengthsOf}
 use Rattle.plate_model.specs.declared.change.ChangeRead.the-variants.{ToChange}
 use Rattle.plate_model.specs.Change.{undoRead}
 use Rattle.plate_model.specs.Calls.{undoBy, undoCall}
@@ -20,7 +20,7 @@ held s = lent (now (s .args .planes)) (now (s .args .pixels)) (now (s .args .log
 -- the change that was read
 reads : (c : tie.After-change)
     → let s = start (c .before .before) in
-    undoRead (s .args .state) (sizedAs (held s)) (held s .pixels) (held s .log) ≡ ToChange (c .change .given .0 .0)
+    undoRead (s .args .state) (lengthsOf (held s)) (held s .pixels) (held s .log) ≡ ToChange (c .change .given .0 .0)
 reads c = sym (c .before .before .read-undo .ensures) ∙ c .change .given .1
 
 unlog-and-exchange-requires : tie.Need-unlog-and-exchange-requires

@@ -4,7 +4,7 @@ use native.Mathlib.Omega.{arith}
 use borrow.Author.Needs.{needs}
 use Rattle.kernels_model.specs.Shape.{numberOf}
 use Rattle.kernels_model.proofs.taps.ShapeNumbers.{number-le}
-use Rattle.plate.proofs.words.Fields.{or-field}
+use Rattle.plate.proofs.laws.words.Fields.{or-field}
 use Rattle.plate.proofs.word.pack.Statement.{statement}
 use Rattle.plate.proofs.word.pack.Tie as tie
 

@@ -1,6 +1,6 @@
 -- The `or` adds the place past the word's bits.
 use native.Mathlib.Omega.{arith}
-use Rattle.plate.proofs.words.Fields.{or-field}
+use Rattle.plate.proofs.laws.words.Fields.{or-field}
 use Rattle.plate.proofs.word.pack_entry.Statement.{statement}
 use Rattle.plate.proofs.word.pack_entry.Tie as tie
 use Rattle.plate_model.specs.Fixed.{wordBits}

@@ -9,7 +9,7 @@ use mir.Facts.{fits-mask}
 use Rattle.kernels_model.specs.declared.shape.ShapeRead.the-variants.{Known, Unknown}
 use Rattle.kernels_model.proofs.taps.ShapeNumbers.{shape-read}
 use Rattle.plate_model.specs.Word.{readWord, pixelIn}
-use Rattle.plate.proofs.words.Fields.{low-word}
+use Rattle.plate.proofs.laws.words.Fields.{low-word}
 use Rattle.plate.proofs.word.unpack.Statement.{statement}
 use Rattle.plate.proofs.word.unpack.Tie as tie
 use Rattle.plate_model.specs.Fixed.{wordBits}

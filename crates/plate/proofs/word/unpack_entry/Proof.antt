@@ -5,7 +5,7 @@ use borrow.Author.Needs.{needs}
 use borrow.Author.Tests.{le-leb}
 use Rattle.plate_model.specs.declared.word.Unpacked.the-variants.{Broken}
 use Rattle.plate_model.specs.Word.{readEntry}
-use Rattle.plate.proofs.words.Fields.{placed-entry}
+use Rattle.plate.proofs.laws.words.Fields.{placed-entry}
 use Rattle.plate.proofs.word.unpack_entry.Statement.{statement}
 use Rattle.plate.proofs.word.unpack_entry.Tie as tie
 

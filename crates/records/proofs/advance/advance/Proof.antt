@@ -5,7 +5,7 @@ use lib.ListN.{length}
 use mathlib.Core.Path.{_≡_, refl}
 use Rattle.records_model.specs.Fixed.{bufferRoom}
 use Rattle.records_model.specs.Machine.{buffers}
-use Rattle.records.proofs.answering.Reached.{Reached, reached-start, reached-next, reached-full, reached-end}
+use Rattle.records.proofs.laws.answering.Reached.{Reached, reached-start, reached-next, reached-full, reached-end}
 use borrow.Author.Needs.{needs}
 use Rattle.records.proofs.advance.advance.Statement.{statement}
 use Rattle.records.proofs.advance.advance.Tie as tie

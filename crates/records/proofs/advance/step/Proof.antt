@@ -4,7 +4,7 @@ use Prim.Native.Nat.{_-_}
 use lib.ListN.{length, take, drop, length-drop}
 use lib.Seq.{length-take-le}
 use Rattle.records_model.specs.Machine.{Buffers, buffers, feedOf}
-use Rattle.records.proofs.answering.Handing.{handed-after, handed-room}
+use Rattle.records.proofs.laws.answering.Handing.{handed-after, handed-room}
 use borrow.Author.Needs.{needs}
 use Rattle.records.proofs.advance.step.Statement.{statement}
 use Rattle.records.proofs.advance.step.Tie as tie

@@ -1,7 +1,7 @@
 -- The record that the machine has read, done where it stands.
 use Rattle.records_model.specs.Record.{recordOf}
 use Rattle.records_model.specs.Machine.{Buffers, buffers, recordOn, fedBy}
-use Rattle.records.proofs.answering.Handing.{handed-done}
+use Rattle.records.proofs.laws.answering.Handing.{handed-done}
 use borrow.Author.Needs.{needs}
 use Rattle.records.proofs.machine.complete.Statement.{statement}
 use Rattle.records.proofs.machine.complete.Tie as tie

@@ -1,6 +1,6 @@
 -- An ended machine stays as it is, and any other takes the byte.
 use Rattle.records_model.specs.Machine.{Buffers, buffers, feedOf}
-use Rattle.records.proofs.answering.Handing.{handed-nothing}
+use Rattle.records.proofs.laws.answering.Handing.{handed-nothing}
 use borrow.Author.Needs.{needs}
 use Rattle.records.proofs.machine.feed.Statement.{statement}
 use Rattle.records.proofs.machine.feed.Tie as tie

@@ -1,6 +1,6 @@
 -- Nothing where the run has stopped, else its last line.
 use Rattle.records_model.specs.Machine.{finishCall, finishOf, endText}
-use Rattle.records.proofs.answering.Handing.{closing-nothing, closing-is}
+use Rattle.records.proofs.laws.answering.Handing.{closing-nothing, closing-is}
 use borrow.Author.Needs.{needs}
 use Rattle.records.proofs.machine.finish.Statement.{statement}
 use Rattle.records.proofs.machine.finish.Tie as tie

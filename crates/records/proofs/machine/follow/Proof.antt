@@ -2,8 +2,8 @@
 use mathlib.Core.Path.{refl}
 use Rattle.records_model.specs.declared.record.Stop.the-variants.{Kind}
 use Rattle.records_model.specs.Machine.{Buffers, buffers, did, stoppedBy, fedBy}
-use Rattle.records.proofs.answering.Leaving.{done-is}
-use Rattle.records.proofs.answering.Handing.{handed-nothing, handed-done}
+use Rattle.records.proofs.laws.answering.Leaving.{done-is}
+use Rattle.records.proofs.laws.answering.Handing.{handed-nothing, handed-done}
 use borrow.Author.Needs.{needs}
 use Rattle.records.proofs.machine.follow.Statement.{statement}
 use Rattle.records.proofs.machine.follow.Tie as tie

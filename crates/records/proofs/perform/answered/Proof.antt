@@ -2,8 +2,8 @@
 use mathlib.Core.Path.{refl}
 use native.Mathlib.Omega.{arith}
 use Rattle.plate_model.specs.Refusal.{outcomeNumber}
-use Rattle.records.proofs.answering.Leaving.{says-nothing}
-use Rattle.records.proofs.answering.Answers.{no-answer, an-answer}
+use Rattle.records.proofs.laws.answering.Leaving.{says-nothing}
+use Rattle.records.proofs.laws.answering.Answers.{no-answer, an-answer}
 use borrow.Author.Needs.{needs}
 use Rattle.records.proofs.perform.answered.Statement.{statement}
 use Rattle.records.proofs.perform.answered.Tie as tie

@@ -9,7 +9,7 @@ returns : tie.Need-returns
 returns c =
     let call = c .before .before .before .before .before .before .before .before .before .before .serve in
     record {
-      kept-is = ap (λ (l : Left). l .kept) (call .ensures);
+      kept-is = ap (λ (l : Left). l .buffers) (call .ensures);
       told = rw (← call .ensures) (c .before .before .answered .ensures);
     }
 

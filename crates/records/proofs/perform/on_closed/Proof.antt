@@ -3,7 +3,7 @@ use mathlib.Core.Path.{refl}
 use Rattle.records_model.specs.declared.record.Stop.the-variants.{Order}
 use Rattle.records_model.specs.declared.request.Request.the-variants.{ToOpen}
 use Rattle.records_model.specs.Machine.{Buffers, stoppedBy, openedBy, recordOn}
-use Rattle.records.proofs.answering.Leaving.{done-is, served-is}
+use Rattle.records.proofs.laws.answering.Leaving.{done-is, served-is}
 use Rattle.plate_model.specs.Lent.{lent, Views}
 use Rattle.records.specs.Done.{joint}
 use borrow.Author.Needs.{needs}

@@ -3,7 +3,7 @@ use mathlib.Core.Path.{refl}
 use Rattle.records_model.specs.declared.record.Stop.the-variants.{Order}
 use Rattle.records_model.specs.declared.request.Request.the-variants.{ToUndo}
 use Rattle.records_model.specs.Machine.{Buffers, buffers, stoppedBy, answeredBy, recordOn}
-use Rattle.records.proofs.answering.Leaving.{done-is, served-is, served-as}
+use Rattle.records.proofs.laws.answering.Leaving.{done-is, served-is, served-as}
 use borrow.Author.Needs.{needs}
 use Rattle.records.proofs.perform.on_open.Statement.{statement}
 use Rattle.records.proofs.perform.on_open.Tie as tie

@@ -1,7 +1,7 @@
 -- By the number of the outcome: 0, 1 or another.
 use native.Mathlib.Omega.{arith}
-use Rattle.records.proofs.answering.Answers.{opened-yes, opened-sizes, opened-cells}
-use Rattle.records.proofs.answering.Leaving.{says-nothing}
+use Rattle.records.proofs.laws.answering.Answers.{opened-yes, opened-sizes, opened-cells}
+use Rattle.records.proofs.laws.answering.Leaving.{says-nothing}
 use borrow.Author.Needs.{needs}
 use Rattle.records.proofs.perform.opened.Statement.{statement}
 use Rattle.records.proofs.perform.opened.Tie as tie

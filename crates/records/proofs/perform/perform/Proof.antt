@@ -2,7 +2,7 @@
 use mathlib.Core.Path.{refl}
 use Rattle.records_model.specs.declared.perform.Stage.the-variants.{Ended}
 use Rattle.records_model.specs.Machine.{Buffers, buffers, recordOn}
-use Rattle.records.proofs.answering.Leaving.{done-is, says-nothing}
+use Rattle.records.proofs.laws.answering.Leaving.{done-is, says-nothing}
 use Rattle.plate_model.specs.Lent.{views}
 use borrow.Author.Needs.{needs}
 use Rattle.records.proofs.perform.perform.Statement.{statement}

@@ -6,7 +6,7 @@ use lib.Seq.{length-take-le}
 use Rattle.plate_model.specs.declared.size.Size.{Size}
 use Rattle.records_model.specs.Machine.{buffers}
 use Rattle.records_model.proofs.lending.Rooms.{cells-within, places-within}
-use Rattle.records.proofs.answering.Leaving.{show-is}
+use Rattle.records.proofs.laws.answering.Leaving.{show-is}
 use Rattle.plate_model.specs.Fixed.{planesInAll, scratchPlanes}
 use borrow.Author.Needs.{needs}
 use Rattle.records.proofs.perform.show_on.Statement.{statement}

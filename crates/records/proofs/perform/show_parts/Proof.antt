@@ -5,7 +5,7 @@ use native.Mathlib.Nat.{mul-comm}
 use Rattle.plate_model.specs.Layout.{places}
 use Rattle.plate_model.specs.Lent.{views}
 use Rattle.records_model.proofs.lending.Rooms.{has-room}
-use Rattle.records.proofs.lending.ShowFits.{few-shown, text-fits}
+use Rattle.records.proofs.laws.lending.ShowFits.{few-shown, text-fits}
 use borrow.Author.Needs.{needs}
 use Rattle.records.proofs.perform.show_parts.Statement.{statement}
 use Rattle.records.proofs.perform.show_parts.Tie as tie

@@ -1,7 +1,7 @@
 -- By the number of the outcome: the pictures for 0, and else what any call is answered by.
 use mathlib.Core.Path.{refl}
 use native.Mathlib.Omega.{arith}
-use Rattle.records.proofs.answering.Answers.{shown-yes, shown-no}
+use Rattle.records.proofs.laws.answering.Answers.{shown-yes, shown-no}
 use borrow.Author.Needs.{needs}
 use Rattle.records.proofs.perform.shown.Statement.{statement}
 use Rattle.records.proofs.perform.shown.Tie as tie

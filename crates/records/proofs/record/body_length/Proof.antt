@@ -1,7 +1,7 @@
 -- The match's numbers are places in the list of lengths, and any other number is past it or 0.
 use mathlib.Core.Path.{_≡_, sym}
 use native.Mathlib.Omega.{arith}
-use Rattle.records.proofs.reading.Kinds.{unknown-kind}
+use Rattle.records.proofs.laws.reading.Kinds.{unknown-kind}
 use borrow.Author.Needs.{needs}
 use Rattle.records.proofs.record.body_length.Statement.{statement}
 use Rattle.records.proofs.record.body_length.Tie as tie

@@ -8,7 +8,7 @@ use Rattle.plate_model.specs.Fixed.{planesInAll}
 use Rattle.plate_model.specs.Lent.{lent}
 use Rattle.records_model.specs.Machine.{cellsOf, placesOf, requestSize}
 use Rattle.records_model.proofs.lending.Rooms.{cells-within, places-within}
-use Rattle.records.proofs.lending.Requests.{request-is}
+use Rattle.records.proofs.laws.lending.Requests.{request-is}
 use borrow.Author.Needs.{needs}
 use Rattle.records.proofs.request.serve.Statement.{statement}
 use Rattle.records.proofs.request.serve.Tie as tie

@@ -2,8 +2,8 @@
 use mathlib.Core.Path.{_∙_}
 use Prim.Native.Nat.{ℕ, _<_}
 use native.Mathlib.Omega.{arith}
-use Rattle.records.proofs.writing.Slices.{then-wrote}
-use Rattle.records.proofs.writing.Decimals.{decimal-one, decimal-more, decimal-longer, decimal-some}
+use Rattle.records.proofs.laws.writing.Slices.{then-wrote}
+use Rattle.records.proofs.laws.writing.Decimals.{decimal-one, decimal-more, decimal-longer, decimal-some}
 use borrow.Fn.Kinds.{In}
 use borrow.Fn.PlainCycle.{Measures, is, falls, and}
 use Rattle.records.proofs.text.number.Reads as number

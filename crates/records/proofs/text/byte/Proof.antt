@@ -1,6 +1,6 @@
 -- The store is one byte written.
 use borrow.Author.Needs.{needs}
-use Rattle.records.proofs.writing.Slices.{wrote-byte}
+use Rattle.records.proofs.laws.writing.Slices.{wrote-byte}
 use Rattle.records.proofs.text.byte.Statement.{statement}
 use Rattle.records.proofs.text.byte.Tie as tie
 

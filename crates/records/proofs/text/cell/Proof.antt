@@ -4,8 +4,8 @@ use native.Mathlib.Omega.{arith}
 use Prim.Native.Nat.{_≤_}
 use lib.ListN.{length}
 use Rattle.records_model.specs.Text.{decimal, cellText}
-use Rattle.records.proofs.writing.Slices.{then-wrote}
-use Rattle.records.proofs.writing.Decimals.{decimal-short}
+use Rattle.records.proofs.laws.writing.Slices.{then-wrote}
+use Rattle.records.proofs.laws.writing.Decimals.{decimal-short}
 use borrow.Author.Needs.{needs}
 use Rattle.records.proofs.text.cell.Statement.{statement}
 use Rattle.records.proofs.text.cell.Tie as tie

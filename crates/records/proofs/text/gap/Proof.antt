@@ -1,8 +1,8 @@
 -- Nothing is written before the first cell, and one byte before another.
 use native.Mathlib.Omega.{arith}
 use borrow.Author.Needs.{needs}
-use Rattle.records.proofs.writing.Slices.{wrote-nothing}
-use Rattle.records.proofs.writing.Rows.{gap-first, gap-next}
+use Rattle.records.proofs.laws.writing.Slices.{wrote-nothing}
+use Rattle.records.proofs.laws.writing.Rows.{gap-first, gap-next}
 use Rattle.records.proofs.text.gap.Statement.{statement}
 use Rattle.records.proofs.text.gap.Tie as tie
 

@@ -2,8 +2,8 @@
 use mathlib.Core.Path.{_∙_}
 use native.Mathlib.Omega.{arith}
 use Rattle.records_model.specs.Text.{headLine}
-use Rattle.records.proofs.writing.Slices.{then-wrote}
-use Rattle.records.proofs.writing.Decimals.{decimal-long}
+use Rattle.records.proofs.laws.writing.Slices.{then-wrote}
+use Rattle.records.proofs.laws.writing.Decimals.{decimal-long}
 use borrow.Author.Needs.{needs}
 use Rattle.records.proofs.text.head.Statement.{statement}
 use Rattle.records.proofs.text.head.Tie as tie

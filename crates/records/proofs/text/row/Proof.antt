@@ -1,4 +1,4 @@
--- Each turn writes one cell more, with a space before it if it is not the first, in at most `rowRoom 1` bytes.
+-- Each iteration writes one cell more, with a space before it if it is not the first, in at most `rowRoom 1` bytes.
 use mathlib.Core.Path.{_≡_, _∙_}
 use Prim.Native.Nat.{_+_, _-_, _≤_}
 use native.Mathlib.Omega.{arith}
@@ -7,8 +7,8 @@ use lib.ListN.{length}
 use Rattle.records_model.specs.Text.{rowText}
 use Rattle.records.specs.Written.{Wrote}
 use Rattle.records.specs.Room.{rowRoom}
-use Rattle.records.proofs.writing.Slices.{wrote-nothing, then-wrote}
-use Rattle.records.proofs.writing.Rows.{row-more}
+use Rattle.records.proofs.laws.writing.Slices.{wrote-nothing, then-wrote}
+use Rattle.records.proofs.laws.writing.Rows.{row-more}
 use Rattle.records.proofs.text.row.Statement.{statement}
 use Rattle.records.proofs.text.row.Tie as tie
 

@@ -1,4 +1,4 @@
--- Each turn writes one row more and the end of its line, in at most `rowsRoom w 1` bytes.
+-- Each iteration writes one row more and the end of its line, in at most `rowsRoom w 1` bytes.
 use mathlib.Core.Path.{_≡_, _∙_}
 use Prim.Native.Nat.{_+_, _*_, _-_, _≤_}
 use native.Mathlib.Omega.{arith}
@@ -8,8 +8,8 @@ use Rattle.kernels_model.proofs.numbers.Products.{product-le}
 use Rattle.records_model.specs.Text.{rowsText}
 use Rattle.records.specs.Written.{Wrote}
 use Rattle.records.specs.Room.{rowRoom, rowsRoom}
-use Rattle.records.proofs.writing.Slices.{wrote-nothing, then-wrote}
-use Rattle.records.proofs.writing.Rows.{rows-more}
+use Rattle.records.proofs.laws.writing.Slices.{wrote-nothing, then-wrote}
+use Rattle.records.proofs.laws.writing.Rows.{rows-more}
 use Rattle.records.proofs.text.rows.Statement.{statement}
 use Rattle.records.proofs.text.rows.Tie as tie
 

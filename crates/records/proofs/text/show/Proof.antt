@@ -1,6 +1,6 @@
 -- The head, and the rows after it.
 use Rattle.records_model.specs.Text.{showText}
-use Rattle.records.proofs.writing.Slices.{then-wrote}
+use Rattle.records.proofs.laws.writing.Slices.{then-wrote}
 use borrow.Author.Needs.{needs}
 use Rattle.records.proofs.text.show.Statement.{statement}
 use Rattle.records.proofs.text.show.Tie as tie

@@ -1,5 +1,5 @@
 -- A space, and then the number.
-use Rattle.records.proofs.writing.Slices.{then-wrote}
+use Rattle.records.proofs.laws.writing.Slices.{then-wrote}
 use borrow.Author.Needs.{needs}
 use Rattle.records.proofs.text.spaced.Statement.{statement}
 use Rattle.records.proofs.text.spaced.Tie as tie

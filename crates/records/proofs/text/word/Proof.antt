@@ -1,4 +1,4 @@
--- Each turn writes one byte more of the word.
+-- Each iteration writes one byte more of the word.
 use mathlib.Core.Path.{_≡_, _∙_}
 use Prim.Native.Nat.{_-_, _≤_}
 use native.Mathlib.Omega.{arith}
@@ -6,7 +6,7 @@ use borrow.Author.Needs.{needs}
 use lib.ListN.{length, take}
 use lib.Seq.{length-take-le, take-length}
 use Rattle.records.specs.Written.{Wrote}
-use Rattle.records.proofs.writing.Slices.{wrote-nothing, word-more}
+use Rattle.records.proofs.laws.writing.Slices.{wrote-nothing, word-more}
 use Rattle.records.proofs.text.word.Statement.{statement}
 use Rattle.records.proofs.text.word.Tie as tie
 
