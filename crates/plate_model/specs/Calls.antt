@@ -14,17 +14,17 @@ use Rattle.plate_model.specs.Layout.{Size, sizeFrom, wide, high, cell, p
 use Rattle.plate_model.specs.Lent.{State, stateOf, Lent, lent, lengthsOf, Ask, Inputs, Views, views}
 use Rattle.plate_model.specs.Word.{Pixel, wordOf, loggedAs}
 use Rattle.plate_model.specs.Kernel.{markCount}
-use Rattle.plate_model.specs.Refusal.{Answer, Refusal, Outcome, Accepted, Refused, openCheck, fillCheck, showCheck}
+use Rattle.plate_model.specs.Refusal.{Answer, Returned, returned, Refusal, Outcome, Accepted, Refused, openCheck, fillCheck, showCheck}
 use Rattle.plate_model.specs.Change.{Change, ChangeRead, ToChange, NoChange, knownShape, putRead, undoRead}
 use Rattle.plate_model.specs.Marks.{exchanged, layGrid}
 
--- what a call answers, and what it leaves of planes, pixels and log
+-- what a call returns, in the paper's numbers, and what it leaves of planes, pixels and log
 pub record Left : Type 0 where
-  pub answer : Answer
+  pub answer : Returned
   pub buffers : Lent
 
 abbrev pub leaves : Answer → Lent → Left
-leaves a l = record { answer = a; buffers = l }
+leaves a l = record { answer = returned a; buffers = l }
 
 abbrev pub left : Answer → List ℕ → List ℕ → List ℕ → Left
 left a planes pixels log = leaves a (lent planes pixels log)
@@ -124,13 +124,13 @@ valuesOf z planes = listTo (λ i. shownValue (sumAt z planes 0 i) (sumAt z plane
 abbrev pub mattesOf : Size → List ℕ → List ℕ
 mattesOf z planes = listTo (λ i. shownMatte (sumAt z planes planesEach i)) (places z)
 
--- what a show answers, and what it leaves of scratch and the pictures
+-- what a show returns, and what it leaves of scratch and the pictures
 pub record Shown : Type 0 where
-  pub answer : Answer
+  pub answer : Returned
   pub seen : Views
 
 abbrev pub shows : Answer → Views → Shown
-shows a v = record { answer = a; seen = v }
+shows a v = record { answer = returned a; seen = v }
 
 abbrev pub shown : Answer → List ℕ → List ℕ → List ℕ → Shown
 shown a scratch values mattes = shows a (views scratch values mattes)

@@ -1,14 +1,14 @@
 -- Lists of calls, on a plate and on a notebook, and what demands 3 and 2 say of them.
 use mathlib.Core.Path.{_≡_}
 use mathlib.Core.List.{List, [], _∷_, map}
-use Prim.Native.Nat.{ℕ, _*_, _<_}
+use Prim.Native.Nat.{ℕ, zero, suc, _*_, _<_}
 use lib.ListN.{getD, length}
 use Rattle.kernels_model.specs.declared.lens.Lens.{Lens}
 use Rattle.plate_model.specs.Fixed.{planesInAll}
 use Rattle.plate_model.specs.Layout.{Size, padded}
 use Rattle.plate_model.specs.Word.{wordOf}
 use Rattle.plate_model.specs.Lent.{State, Lent, lengthsOf, ask, inputs, Views, Canvas}
-use Rattle.plate_model.specs.Refusal.{Outcome, Accepted, Refused, outcomeNumber, openCheck, viewsCheck}
+use Rattle.plate_model.specs.Refusal.{Accepted, openCheck, viewsCheck}
 use Rattle.plate_model.specs.Calls.{Left, Shown, shown, answerOf, zeros, openCall, putCall, undoCall, fillCall, showCall}
 use Rattle.plate_model.specs.Kept.{putKeptCall, undoKeptCall, showKeptCall}
 use Rattle.plate_model.specs.Plain.{plainValues, plainMattes, gridCell}
@@ -47,17 +47,17 @@ abbrev pub leftBy : Left → Plate
 leftBy l = record { state = l .answer .state; buffers = l .buffers }
 
 abbrev pub stepOf : Left → Step
-stepOf l = record { report = plain (outcomeNumber (l .answer .outcome)) (l .answer .marks); plate = leftBy l }
+stepOf l = record { report = plain (l .answer .number) (l .answer .marks); plate = leftBy l }
 
--- what is compared of a show: both pictures if it is accepted
-unfoldable pub seenBy : Outcome → ℕ → Views → Report
-seenBy Accepted n v = record { number = 0; marks = n; pictures = both (v .values) (v .mattes) }
-seenBy (Refused f) n v = plain (outcomeNumber (Refused f)) n
+-- what is compared of a show, by its number: both pictures if it is accepted
+unfoldable pub seenBy : ℕ → ℕ → Views → Report
+seenBy zero n v = record { number = 0; marks = n; pictures = both (v .values) (v .mattes) }
+seenBy (suc k) n v = plain (suc k) n
 
 abbrev pub shownTo : Plate → Shown → Step
 shownTo p s =
     record {
-      report = seenBy (s .answer .outcome) (s .answer .marks) (s .seen);
+      report = seenBy (s .answer .number) (s .answer .marks) (s .seen);
       plate = record { state = s .answer .state; buffers = p .buffers };
     }
 

@@ -73,10 +73,10 @@ PaintsFresh =
     (p : Plate) (v : Views) (sums : List ℕ) (changes : List KeptCall) →
     let first = showKeptCall (p .state) (p .buffers .planes) v sums in
     let end = paintAll (shownPainting p first) changes in
-    first .call .answer .outcome ≡ Accepted
+    first .call .answer .number ≡ 0
     → (v' : Views) (sums' : List ℕ) → AsMuch v v' sums sums' →
     let again = showKeptCall (end .plate .state) (end .plate .buffers .planes) v' sums' in
-    (again .call .answer .outcome ≡ Accepted) × (end .canvas ≡ shownCanvas again)
+    (again .call .answer .number ≡ 0) × (end .canvas ≡ shownCanvas again)
 
 -- the same calls in their first form
 abbrev pub firstForm : KeptCall → Call
@@ -91,5 +91,5 @@ PaintsPlain =
     let first = showKeptCall (p .state) (p .buffers .planes) v sums in
     let end = paintAll (shownPainting p first) changes in
     let grid = bookAfter (openBook z (length (l .log))) (calls ++ map firstForm changes) .grid in
-    first .call .answer .outcome ≡ Accepted
+    first .call .answer .number ≡ 0
     → (end .canvas .values ≡ plainValues z grid) × (end .canvas .mattes ≡ plainMattes z grid)

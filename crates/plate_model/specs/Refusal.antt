@@ -42,6 +42,16 @@ abbrev pub outcomeNumber : Outcome → ℕ
 outcomeNumber Accepted = 0
 outcomeNumber (Refused f) = refusalNumber f
 
+-- what a call returns, in the paper's numbers: number, mark count and state
+pub record Returned : Type 0 where
+  pub number : ℕ
+  pub marks : ℕ
+  pub state : State
+
+-- an answer's
+abbrev pub returned : Answer → Returned
+returned a = record { number = outcomeNumber (a .outcome); marks = a .marks; state = a .state }
+
 -- the refusal where the test holds, else what comes next
 unfoldable pub refuseIf : Bool → Refusal → Outcome → Outcome
 refuseIf true f next = Refused f

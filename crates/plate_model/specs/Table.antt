@@ -22,9 +22,9 @@ use Rattle.plate_model.specs.Calls.{Left, refused, Shown, shows, answerO
 use Rattle.plate_model.specs.Kept.{Refreshed, leavesKept, putKeptCall, undoKeptCall, ShownKept, showsKept, showKeptCall}
 use Rattle.plate_model.specs.Total.{Totalled, totalled, noTotals, totalCall}
 
--- an answer by rows: the refusal of the first that applies, and accepted where none does
-abbrev pub AnswersBy : List (TableRow Refusal) → Outcome → Type 0
-AnswersBy rows o = FirstOf (λ f. o ≡ Refused f) (o ≡ Accepted) rows
+-- a number by rows: that of the first refusal that applies, and "An accepted call returns number 0" where none does
+abbrev pub AnswersBy : List (TableRow Refusal) → ℕ → Type 0
+AnswersBy rows n = FirstOf (λ f. n ≡ refusalNumber f) (n ≡ 0) rows
 
 -- WHEN EACH IS GIVEN
 -- "W and H from 1 to 4,096, W × H at most 2,097,152 .., R from 0 to 64"
@@ -229,31 +229,31 @@ pub record Orders : Type 0 where
       → numbersOf (showKeptRows s planes v sums) ≡ 1 ∷ 2 ∷ []
 
 -- DEMAND 1
--- a call that goes by its rows: its answer is theirs, and "after a refusal every lent buffer is as before", the mark count 0 and
+-- a call that goes by its rows: its number is theirs, and "after a refusal every lent buffer is as before", the mark count 0 and
 -- the state that is handed back. What a call leaves differs from call to call.
-pub record CallBy {A : Type 0} (rows : List (TableRow Refusal)) (outcomeIn : A → Outcome) (refusedAs : Refusal → A) (call : A) : Type 0 where
-  pub first : AnswersBy rows (outcomeIn call)
-  pub untouched : (f : Refusal) → outcomeIn call ≡ Refused f → call ≡ refusedAs f
+pub record CallBy {A : Type 0} (rows : List (TableRow Refusal)) (numberIn : A → ℕ) (refusedAs : Refusal → A) (call : A) : Type 0 where
+  pub first : AnswersBy rows (numberIn call)
+  pub untouched : (f : Refusal) → numberIn call ≡ refusalNumber f → call ≡ refusedAs f
 
 abbrev pub GoesBy : List (TableRow Refusal) → State → Lent → Left → Type 0
-GoesBy rows s l call = CallBy rows (λ (c : Left). c .answer .outcome) (λ f. refused f s l) call
+GoesBy rows s l call = CallBy rows (λ (c : Left). c .answer .number) (λ f. refused f s l) call
 
 abbrev pub ShowGoesBy : List (TableRow Refusal) → State → Views → Shown → Type 0
-ShowGoesBy rows s v call = CallBy rows (λ (c : Shown). c .answer .outcome) (λ f. shows (answerOf (Refused f) 0 s) v) call
+ShowGoesBy rows s v call = CallBy rows (λ (c : Shown). c .answer .number) (λ f. shows (answerOf (Refused f) 0 s) v) call
 
 -- the second forms
 abbrev pub KeptGoesBy : List (TableRow Refusal) → State → Lent → Canvas → Refreshed → Type 0
 KeptGoesBy rows s l k call =
-    CallBy rows (λ (c : Refreshed). c .call .answer .outcome) (λ f. leavesKept (answerOf (Refused f) 0 s) l k) call
+    CallBy rows (λ (c : Refreshed). c .call .answer .number) (λ f. leavesKept (answerOf (Refused f) 0 s) l k) call
 
 abbrev pub ShowKeptGoesBy : List (TableRow Refusal) → State → Views → List ℕ → ShownKept → Type 0
 ShowKeptGoesBy rows s v sums call =
-    CallBy rows (λ (c : ShownKept). c .call .answer .outcome) (λ f. showsKept (answerOf (Refused f) 0 s) v sums) call
+    CallBy rows (λ (c : ShownKept). c .call .answer .number) (λ f. showsKept (answerOf (Refused f) 0 s) v sums) call
 
 -- a total, whose sums are then 0
 abbrev pub TotalGoesBy : List (TableRow Refusal) → State → List ℕ → Totalled → Type 0
 TotalGoesBy rows s scratch call =
-    CallBy rows (λ (c : Totalled). c .totals .answer .outcome) (λ f. totalled (noTotals (answerOf (Refused f) 0 s)) scratch) call
+    CallBy rows (λ (c : Totalled). c .answer .number) (λ f. totalled (noTotals (answerOf (Refused f) 0 s)) scratch) call
 
 -- "Any call of a public entry, with any sizes, buffers, stored words .., gets the finished work or exactly the refusal the
 -- paper's table fixes"; the state is "all zero from open"

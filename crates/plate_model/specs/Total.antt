@@ -6,7 +6,7 @@ use Rattle.kernels_model.specs.Fixed.{planesEach}
 use Rattle.kernels_model.specs.Sum.{sum, finish}
 use Rattle.plate_model.specs.Layout.{Size, wide, high}
 use Rattle.plate_model.specs.Lent.{State}
-use Rattle.plate_model.specs.Refusal.{Answer, Outcome, Accepted, Refused, totalCheck}
+use Rattle.plate_model.specs.Refusal.{Answer, Returned, returned, Outcome, Accepted, Refused, totalCheck}
 use Rattle.plate_model.specs.Calls.{answerOf, zeros, stored}
 pub use Rattle.plate_model.specs.declared.total.Totals.{Totals}
 
@@ -15,13 +15,15 @@ pub use Rattle.plate_model.specs.declared.total.Totals.{Totals}
 unfoldable pub heldFrom : Size → List ℕ → ℕ → ℕ
 heldFrom z planes p = sum (λ y. sum (λ x. finish (stored z planes p) x y) (wide z)) (high z) % 2 ^ 64
 
--- what a total answers, and what it leaves of the scratch
+-- what a total returns, in the paper's numbers, and what it leaves of the scratch
 pub record Totalled : Type 0 where
-  pub totals : Totals
+  pub answer : Returned
+  pub matte : ℕ
+  pub light : ℕ
   pub scratch : List ℕ
 
 abbrev pub totalled : Totals → List ℕ → Totalled
-totalled t scratch = record { totals = t; scratch = scratch }
+totalled t scratch = record { answer = returned (t .answer); matte = t .matte; light = t .light; scratch = scratch }
 
 abbrev pub totalsOf : Answer → ℕ → ℕ → Totals
 totalsOf a matte light = record { answer = a; matte = matte; light = light }

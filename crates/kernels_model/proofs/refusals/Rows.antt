@@ -35,6 +35,14 @@ module _ {F : Type 0} (says : F → Type 0) (accepted : Type 0) where
     same-answer (r ∷ rows) refused both (inr p) (inl q) = absurd (p .0 (q .0))
     same-answer (r ∷ rows) refused both (inr p) (inr q) = same-answer rows refused both (p .1) (q .1)
 
+    -- the same rows in other words
+    pub first-says : (rows : List (TableRow F)) → ((f : F) → says f → tells f) → (accepted → taken)
+        → FirstOf says accepted rows → FirstOf tells taken rows
+    unfolding FirstOf
+    first-says [] told both p = both p
+    first-says (r ∷ rows) told both (inl p) = inl (p .0, told (r .refusal) (p .1))
+    first-says (r ∷ rows) told both (inr p) = inr (p .0, first-says rows told both (p .1))
+
     -- further rows, checked where the first ones accept
     pub first-then : (rows more : List (TableRow F)) → ((f : F) → says f → tells f) → (accepted → FirstOf tells taken more)
         → FirstOf says accepted rows → FirstOf tells taken (rows ++ more)

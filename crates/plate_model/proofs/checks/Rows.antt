@@ -1,13 +1,14 @@
 -- Answers by rows of the table of refusals, and checks that keep to a row.
-use mathlib.Core.Path.{_≡_, refl, sym, _∙_}
+use mathlib.Core.Path.{_≡_, refl, ap, sym, _∙_}
 use mathlib.Core.Logic.{_⊎_, inl, inr, ⊎-elim}
 use mathlib.Core.List.{List, [], _∷_, _++_}
 use Prim.Native.Nat.{ℕ, _≤_}
 use native.Mathlib.Omega.{arith}
 use lib.Dec.{lit≤}
-use Rattle.plate_model.specs.Refusal.{Refusal, Sizes, Lengths, LogCount, Place, Value, UnknownShape, LargeRadius, LogFull, LogEmpty, StoredWord, UnlawfulLens, Depth, DepthInside, Outcome, Accepted, Refused, refusalNumber}
+use lib.ListN.{getD}
+use Rattle.plate_model.specs.Refusal.{Refusal, Sizes, Lengths, LogCount, Place, Value, UnknownShape, LargeRadius, LogFull, LogEmpty, StoredWord, UnlawfulLens, Depth, DepthInside, Outcome, Accepted, Refused, refusalNumber, outcomeNumber}
 use Rattle.kernels_model.specs.Rows.{TableRow, row, FirstOf}
-use Rattle.kernels_model.proofs.refusals.Rows.{NoneOf, none-accepted, accepted-none, same-answer, first-then}
+use Rattle.kernels_model.proofs.refusals.Rows.{NoneOf, none-accepted, accepted-none, same-answer, first-says, first-then}
 use Rattle.plate_model.specs.Table.{AnswersBy}
 
 pub refused-not : {P : Type 0} (f : Refusal) → Refused f ≡ Accepted → P
@@ -29,24 +30,89 @@ refusal-some UnlawfulLens = lit≤ tt
 refusal-some Depth = lit≤ tt
 refusal-some DepthInside = lit≤ tt
 
--- AN ANSWER BY ROWS
+-- ONE NUMBER FOR EACH REFUSAL
+-- the refusals by their numbers; 0 and those of the records have none
+refusalAt : ℕ → Refusal
+refusalAt n =
+    getD
+    (Sizes
+    ∷ Sizes
+    ∷ Lengths
+    ∷ LogCount
+    ∷ Place
+    ∷ Value
+    ∷ UnknownShape
+    ∷ LargeRadius
+    ∷ LogFull
+    ∷ LogEmpty
+    ∷ StoredWord
+    ∷ UnlawfulLens
+    ∷ Depth
+    ∷ Sizes
+    ∷ Sizes
+    ∷ Sizes
+    ∷ Sizes
+    ∷ DepthInside
+    ∷ [])
+    n Sizes
+
+refusal-at : (f : Refusal) → refusalAt (refusalNumber f) ≡ f
+unfolding refusalAt
+refusal-at Sizes = refl
+refusal-at Lengths = refl
+refusal-at LogCount = refl
+refusal-at Place = refl
+refusal-at Value = refl
+refusal-at UnknownShape = refl
+refusal-at LargeRadius = refl
+refusal-at LogFull = refl
+refusal-at LogEmpty = refl
+refusal-at StoredWord = refl
+refusal-at UnlawfulLens = refl
+refusal-at Depth = refl
+refusal-at DepthInside = refl
+
+pub numbers-apart : (f g : Refusal) → refusalNumber f ≡ refusalNumber g → f ≡ g
+numbers-apart f g e = sym (refusal-at f) ∙ ap refusalAt e ∙ refusal-at g
+
+-- an outcome with a refusal's number is that refusal
+pub outcome-numbered : (o : Outcome) (f : Refusal) → outcomeNumber o ≡ refusalNumber f → o ≡ Refused f
+outcome-numbered Accepted f e = absurd (omega (arith, refusal-some f, e))
+outcome-numbered (Refused g) f e = ap Refused (numbers-apart g f e)
+
+-- and one with number 0 is accepted
+pub accepted-numbered : (o : Outcome) → outcomeNumber o ≡ 0 → o ≡ Accepted
+accepted-numbered Accepted e = refl
+accepted-numbered (Refused f) e = absurd (omega (arith, refusal-some f, e))
+
+-- AN OUTCOME BY ROWS: the refusal of the first that applies, and accepted where none does
+abbrev pub OutcomeBy : List (TableRow Refusal) → Outcome → Type 0
+OutcomeBy rows o = FirstOf (λ f. o ≡ Refused f) (o ≡ Accepted) rows
+
+-- its number is by the rows
+pub number-by : (rows : List (TableRow Refusal)) (o : Outcome) → OutcomeBy rows o → AnswersBy rows (outcomeNumber o)
+number-by rows o =
+    first-says (λ f. o ≡ Refused f) (o ≡ Accepted) (λ f. outcomeNumber o ≡ refusalNumber f) (outcomeNumber o ≡ 0) rows
+    (λ f e. ap outcomeNumber e)
+    (λ e. ap outcomeNumber e)
+
 -- it is accepted exactly where none applies
-pub none-refused : (rows : List (TableRow Refusal)) (o : Outcome) → AnswersBy rows o → NoneOf rows → o ≡ Accepted
+pub none-refused : (rows : List (TableRow Refusal)) (o : Outcome) → OutcomeBy rows o → NoneOf rows → o ≡ Accepted
 none-refused rows o = none-accepted (λ f. o ≡ Refused f) (o ≡ Accepted) rows
 
-pub refused-none : (rows : List (TableRow Refusal)) (o : Outcome) → AnswersBy rows o → o ≡ Accepted → NoneOf rows
+pub refused-none : (rows : List (TableRow Refusal)) (o : Outcome) → OutcomeBy rows o → o ≡ Accepted → NoneOf rows
 refused-none rows o =
     accepted-none (λ f. o ≡ Refused f) (o ≡ Accepted) rows (λ f r a. refused-not f (sym r ∙ a))
 
 -- and there is one such answer
-pub answered-once : (rows : List (TableRow Refusal)) (o p : Outcome) → AnswersBy rows o → AnswersBy rows p → o ≡ p
+pub answered-once : (rows : List (TableRow Refusal)) (o p : Outcome) → OutcomeBy rows o → OutcomeBy rows p → o ≡ p
 answered-once rows o p =
     same-answer (λ f. o ≡ Refused f) (o ≡ Accepted) (λ f. p ≡ Refused f) (p ≡ Accepted) rows
     (λ f a b. a ∙ sym b)
     (λ a b. a ∙ sym b)
 
 -- past the last row a call is accepted
-pub last-row : AnswersBy [] Accepted
+pub last-row : OutcomeBy [] Accepted
 unfolding FirstOf
 last-row = refl
 
@@ -60,8 +126,8 @@ pub and-then : (a next : Outcome) → andThen a next ≡ Accepted → (a ≡ Acc
 and-then Accepted next e = (refl, e)
 and-then (Refused f) next e = refused-not f e
 
-pub answers-then : (rows more : List (TableRow Refusal)) (o p : Outcome) → AnswersBy rows o → (o ≡ Accepted → AnswersBy more p)
-    → AnswersBy (rows ++ more) (andThen o p)
+pub answers-then : (rows more : List (TableRow Refusal)) (o p : Outcome) → OutcomeBy rows o → (o ≡ Accepted → OutcomeBy more p)
+    → OutcomeBy (rows ++ more) (andThen o p)
 answers-then rows more o p first rest =
     first-then (λ f. o ≡ Refused f) (o ≡ Accepted) (λ f. andThen o p ≡ Refused f) (andThen o p ≡ Accepted) rows more
     (λ f r. rw r)
@@ -99,8 +165,8 @@ module _ {f : Refusal} {G C : Type 0} {check : Outcome → Outcome} where
       by-check k (λ g r. rw (r (andThen a next), r a)) (λ c r. rw (r (andThen a next), r a))
 
   -- the row of a check is the first of the rows
-  pub first-check : Checks f G C check → (rows : List (TableRow Refusal)) (next : Outcome) → (C → AnswersBy rows next)
-      → AnswersBy (row f G ∷ rows) (check next)
+  pub first-check : Checks f G C check → (rows : List (TableRow Refusal)) (next : Outcome) → (C → OutcomeBy rows next)
+      → OutcomeBy (row f G ∷ rows) (check next)
   unfolding FirstOf
   first-check k rows next rest =
       by-check k (λ g r. inl (g, r next)) (λ c r. inr ((λ g. k .apart g c), rw (r next) (rest c)))

@@ -12,44 +12,44 @@ use Rattle.kernels_model.specs.Shape.{shapeOf}
 use Rattle.plate_model.specs.Layout.{Size, sizeFrom}
 use Rattle.plate_model.specs.Lent.{State, stateOf, Lent, lengthsOf, Ask, Inputs, Views, Canvas}
 use Rattle.plate_model.specs.Word.{readWord, readEntry}
-use Rattle.plate_model.specs.Refusal.{Refusal, Sizes, Lengths, LogCount, Place, Value, UnknownShape, LargeRadius, LogFull, StoredWord, UnlawfulLens, Depth, DepthInside, Outcome, Accepted, Refused, openCheck, plateCheck, askCheck, putCheck, undoCheck, emptyCheck, fillFirst, layerCheck, fillCheck, viewsCheck, totalCheck, showCheck, sizesCheck, canvasCheck, keptCheck, showKeptCheck}
+use Rattle.plate_model.specs.Refusal.{Refusal, Sizes, Lengths, LogCount, Place, Value, UnknownShape, LargeRadius, LogFull, StoredWord, UnlawfulLens, Depth, DepthInside, Outcome, Accepted, Refused, refusalNumber, outcomeNumber, openCheck, plateCheck, askCheck, putCheck, undoCheck, emptyCheck, fillFirst, layerCheck, fillCheck, viewsCheck, totalCheck, showCheck, sizesCheck, canvasCheck, keptCheck, showKeptCheck}
 use Rattle.plate_model.specs.Change.{Change, ChangeRead, ToChange, NoChange, askedPlace, putOver, putReadBy, putRead, undoOver, undoEntry, undoReadBy, undoRead}
 use Rattle.plate_model.specs.Calls.{Left, refused, Shown, shows, answerOf, openBy, openCall, putBy, putCall, undoBy, undoCall, fillBy, fillCall, showBy, showCall, changed}
 use Rattle.plate_model.specs.Kept.{Refreshed, leavesKept, keptRead, canvasFirst, canvasBy, putKeptBy, putKeptCall, undoKeptBy, undoKeptCall, sumsBy, ShownKept, showsKept, showKeptBy, showKeptCall}
 use Rattle.plate_model.specs.Total.{Totalled, totalled, noTotals, totalBy, totalCall}
-use Rattle.plate_model.specs.Table.{AnswersBy, CanvasWrong, SizesOutside, LentWrong, InputsWrong, ViewsWrong, TotalWrong, CountAbove, PlaceOutside, ValueAbove, SomeOf, ShapeAbove, RadiusAbove, WordBroken, EntryBroken, placeIn, LensOutside, DepthAbove, InsideLens, LawfulSize, openRows, putRows, undoRows, fillRows, showRows, totalRows, putKeptRows, undoKeptRows, showKeptRows, CallBy, GoesBy, ShowGoesBy, KeptGoesBy, ShowKeptGoesBy, TotalGoesBy, Orders, Demand1, OpenAccepts}
-use Rattle.plate_model.proofs.checks.Rows.{refused-not, last-row, andThen, answers-then, Checks, by-check, check-before, first-check, checks-both}
+use Rattle.plate_model.specs.Table.{CanvasWrong, SizesOutside, LentWrong, InputsWrong, ViewsWrong, TotalWrong, CountAbove, PlaceOutside, ValueAbove, SomeOf, ShapeAbove, RadiusAbove, WordBroken, EntryBroken, placeIn, LensOutside, DepthAbove, InsideLens, LawfulSize, openRows, putRows, undoRows, fillRows, showRows, totalRows, putKeptRows, undoKeptRows, showKeptRows, CallBy, GoesBy, ShowGoesBy, KeptGoesBy, ShowKeptGoesBy, TotalGoesBy, Orders, Demand1, OpenAccepts}
+use Rattle.plate_model.proofs.checks.Rows.{refused-not, outcome-numbered, OutcomeBy, number-by, last-row, andThen, answers-then, Checks, by-check, check-before, first-check, checks-both}
 use Rattle.plate_model.proofs.checks.Conditions.{sizes-checks, length-checks, lent-checks, inputs-checks, total-checks, views-checks, canvas-checks, count-checks, place-checks, value-checks, shape-checks, radius-checks, full-checks, empty-checks, above-checks, inside-checks, lens-checks}
 use Rattle.plate_model.proofs.checks.Passed.{sizes-pass, lent-pass}
 use Rattle.plate_model.proofs.checks.Accepted.{plate-accepted}
 use Rattle.plate_model.proofs.words.Stored.{WordTold, word-told, EntryTold, entry-told}
 
 -- WHERE A CALL IS REFUSED
--- a call that goes on by what it has heard, from its check or from what it read: its outcome is the one that it heard, and where
--- that is a refusal it is the refused call
-module _ {R A : Type 0} (heard : R → Outcome) (outcomeIn : A → Outcome) (refusedAs : Refusal → A) (by : R → A)
-    (accepts : (r : R) → heard r ≡ Accepted → outcomeIn (by r) ≡ Accepted)
+-- a call that goes on by what it has heard, from its check or from what it read: its number is that of the outcome that it heard,
+-- and where that is a refusal it is the refused call
+module _ {R A : Type 0} (heard : R → Outcome) (numberIn : A → ℕ) (refusedAs : Refusal → A) (by : R → A)
+    (accepts : (r : R) → heard r ≡ Accepted → numberIn (by r) ≡ 0)
     (refuses : (r : R) (f : Refusal) → heard r ≡ Refused f → by r ≡ refusedAs f)
-    (tells : (f : Refusal) → outcomeIn (refusedAs f) ≡ Refused f) where
-  outcome-as : (r : R) (o : Outcome) → heard r ≡ o → outcomeIn (by r) ≡ o
-  outcome-as r Accepted e = accepts r e
-  outcome-as r (Refused f) e = ap outcomeIn (refuses r f e) ∙ tells f
+    (tells : (f : Refusal) → numberIn (refusedAs f) ≡ refusalNumber f) where
+  number-as : (r : R) (o : Outcome) → heard r ≡ o → numberIn (by r) ≡ outcomeNumber o
+  number-as r Accepted e = accepts r e
+  number-as r (Refused f) e = ap numberIn (refuses r f e) ∙ tells f
 
-  outcome-is : (r : R) → outcomeIn (by r) ≡ heard r
-  outcome-is r = outcome-as r (heard r) refl
+  number-is : (r : R) → numberIn (by r) ≡ outcomeNumber (heard r)
+  number-is r = number-as r (heard r) refl
 
-  left-is : (r : R) (f : Refusal) → outcomeIn (by r) ≡ Refused f → by r ≡ refusedAs f
-  left-is r f e = refuses r f (sym (outcome-is r) ∙ e)
+  left-is : (r : R) (f : Refusal) → numberIn (by r) ≡ refusalNumber f → by r ≡ refusedAs f
+  left-is r f e = refuses r f (outcome-numbered (heard r) f (sym (number-is r) ∙ e))
 
-  call-by : (rows : List (TableRow Refusal)) (r : R) → AnswersBy rows (heard r) → CallBy rows outcomeIn refusedAs (by r)
-  call-by rows r first = record { first = rw (outcome-is r) first; untouched = left-is r }
+  call-by : (rows : List (TableRow Refusal)) (r : R) → OutcomeBy rows (heard r) → CallBy rows numberIn refusedAs (by r)
+  call-by rows r first = record { first = rw (number-is r) (number-by rows (heard r) first); untouched = left-is r }
 
 -- a call of planes, pixels and log
 module _ {R : Type 0} (heard : R → Outcome) (s : State) (l : Lent) (by : R → Left)
-    (accepts : (r : R) → heard r ≡ Accepted → by r .answer .outcome ≡ Accepted)
+    (accepts : (r : R) → heard r ≡ Accepted → by r .answer .number ≡ 0)
     (refuses : (r : R) (f : Refusal) → heard r ≡ Refused f → by r ≡ refused f s l) where
-  goes-by : (rows : List (TableRow Refusal)) (r : R) → AnswersBy rows (heard r) → GoesBy rows s l (by r)
-  goes-by = call-by heard (λ (a : Left). a .answer .outcome) (λ f. refused f s l) by accepts refuses (λ f. refl)
+  goes-by : (rows : List (TableRow Refusal)) (r : R) → OutcomeBy rows (heard r) → GoesBy rows s l (by r)
+  goes-by = call-by heard (λ (a : Left). a .answer .number) (λ f. refused f s l) by accepts refuses (λ f. refl)
 
 -- OPEN
 open-goes : (z : Size) (l : Lent) → GoesBy (openRows z l) (stateOf (sizeFrom 0 0 0) 0) l (openCall z l)
@@ -73,8 +73,8 @@ refusal-read (ToChange c) f e = refused-not f (sym e)
 refusal-read (NoChange g) f e = let same : g ≡ f = cc in rw same
 
 -- 1 2 3, and what is known where they pass
-plate-first : (s : State) (l : Lent) (rows : List (TableRow Refusal)) (next : Outcome) → (LawfulSize (s .size) → AnswersBy rows next)
-    → AnswersBy
+plate-first : (s : State) (l : Lent) (rows : List (TableRow Refusal)) (next : Outcome) → (LawfulSize (s .size) → OutcomeBy rows next)
+    → OutcomeBy
     (row Sizes (SizesOutside (s .size)) ∷ row Lengths (LentWrong (s .size) (lengthsOf l)) ∷ row LogCount (CountAbove s l) ∷ rows)
     (plateCheck s (lengthsOf l) next)
 unfolding plateCheck
@@ -100,14 +100,14 @@ undo-outcome (Refused f) s pixels log = refl
 
 -- 10 of a put
 put-stored : (z : Size) (a : Ask) (w : ℕ) → WordTold (z .reach) w
-    → AnswersBy (row StoredWord (WordBroken (z .reach) w) ∷ []) (outcomeOf (putOver (readWord (z .reach) w) z a))
+    → OutcomeBy (row StoredWord (WordBroken (z .reach) w) ∷ []) (outcomeOf (putOver (readWord (z .reach) w) z a))
 unfolding FirstOf putOver
 put-stored z a w (inl t) = inl (t .0, rw (t .1))
 put-stored z a w (inr t) = inr (t .sound, rw (t .read))
 
 -- and of an undo
 undo-stored : (z : Size) (e : ℕ) (pixels : List ℕ) → EntryTold z e
-    → AnswersBy (row StoredWord (EntryBroken z e ⊎ WordBroken (z .reach) (getD pixels (placeIn e) 0)) ∷ [])
+    → OutcomeBy (row StoredWord (EntryBroken z e ⊎ WordBroken (z .reach) (getD pixels (placeIn e) 0)) ∷ [])
     (outcomeOf (undoEntry (readEntry z e) z pixels))
 unfolding FirstOf undoEntry undoOver
 undo-stored z e pixels (inl t) = inl (inl (t .0), rw (t .1))
@@ -120,7 +120,7 @@ undo-stored z e pixels (inr t) =
 -- PUT
 -- 4 to 8
 ask-first : (z : Size) (n room : ℕ) (a : Ask)
-    → AnswersBy
+    → OutcomeBy
     (row Place (PlaceOutside z (a .x) (a .y))
     ∷ row Value (ValueAbove (a .value))
     ∷ row UnknownShape (ShapeAbove (a .shape))
@@ -137,7 +137,7 @@ ask-first z n room a =
     first-check (full-checks n room) [] Accepted (λ _. last-row)))))
 
 -- what it reads goes by the rows
-put-reads : (s : State) (a : Ask) (l : Lent) → AnswersBy (putRows s a l) (outcomeOf (putRead s a (lengthsOf l) (l .pixels)))
+put-reads : (s : State) (a : Ask) (l : Lent) → OutcomeBy (putRows s a l) (outcomeOf (putRead s a (lengthsOf l) (l .pixels)))
 unfolding putRead putCheck
 put-reads s a l =
     let z = s .size in
@@ -154,7 +154,7 @@ put-goes s a l =
     (putRead s a (lengthsOf l) (l .pixels)) (put-reads s a l)
 
 -- UNDO
-undo-reads : (s : State) (l : Lent) → AnswersBy (undoRows s l) (outcomeOf (undoRead s (lengthsOf l) (l .pixels) (l .log)))
+undo-reads : (s : State) (l : Lent) → OutcomeBy (undoRows s l) (outcomeOf (undoRead s (lengthsOf l) (l .pixels) (l .log)))
 unfolding undoRead undoCheck
 undo-reads s l =
     let z = s .size in
@@ -174,7 +174,7 @@ undo-goes s l =
 -- FILL
 -- 5 6 11 12 17
 layer-first : (o : Lens) (k : ℕ) (f : Inputs)
-    → AnswersBy
+    → OutcomeBy
     (row Value (SomeOf ValueAbove (f .values))
     ∷ row UnknownShape (ShapeAbove k)
     ∷ row UnlawfulLens (LensOutside o)
@@ -202,7 +202,7 @@ fill-goes s o k f l =
 
 -- SHOW
 show-first : (s : State) (planes : List ℕ) (v : Views)
-    → AnswersBy (showRows s planes v)
+    → OutcomeBy (showRows s planes v)
     (showCheck s (length planes) (length (v .scratch)) (length (v .values)) (length (v .mattes)))
 unfolding showCheck viewsCheck ViewsWrong
 show-first s planes v =
@@ -213,28 +213,28 @@ show-first s planes v =
 show-goes : (s : State) (planes : List ℕ) (v : Views) → ShowGoesBy (showRows s planes v) s v (showCall s planes v)
 unfolding showCall showBy
 show-goes s planes v =
-    call-by (λ o. o) (λ (a : Shown). a .answer .outcome) (λ f. shows (answerOf (Refused f) 0 s) v) (λ o. showBy o s planes v)
+    call-by (λ o. o) (λ (a : Shown). a .answer .number) (λ f. shows (answerOf (Refused f) 0 s) v) (λ o. showBy o s planes v)
     (λ o e. rw e) (λ o f e. rw e) (λ f. refl) (showRows s planes v) _ (show-first s planes v)
 
 -- THE SECOND FORMS
 -- a length more is checked after the sizes, and before what the first form checks: it is one more reason for 2
 also-checked : {C D : Type 0} {check : Outcome → Outcome} (z : Size) → Checks Lengths C D check
     → (L : Type 0) (rows : List (TableRow Refusal)) (next : Outcome)
-    → AnswersBy (row Sizes (SizesOutside z) ∷ row Lengths L ∷ rows) next
-    → AnswersBy (row Sizes (SizesOutside z) ∷ row Lengths (L ⊎ C) ∷ rows) (sizesCheck z (check next))
+    → OutcomeBy (row Sizes (SizesOutside z) ∷ row Lengths L ∷ rows) next
+    → OutcomeBy (row Sizes (SizesOutside z) ∷ row Lengths (L ⊎ C) ∷ rows) (sizesCheck z (check next))
 unfolding FirstOf
 also-checked {C} {D} {check} z k L rows next first =
     first-check (sizes-checks z) (row Lengths (L ⊎ C) ∷ rows) (check next) (λ lawful. by-check k wrong (λ right r. rw (r next) (past lawful right first)))
   where
-    wrong : C → ((o : Outcome) → check o ≡ Refused Lengths) → AnswersBy (row Lengths (L ⊎ C) ∷ rows) (check next)
+    wrong : C → ((o : Outcome) → check o ≡ Refused Lengths) → OutcomeBy (row Lengths (L ⊎ C) ∷ rows) (check next)
     wrong c r = inl (inr c, r next)
 
-    after : D → AnswersBy (row Lengths L ∷ rows) next → AnswersBy (row Lengths (L ⊎ C) ∷ rows) next
+    after : D → OutcomeBy (row Lengths L ∷ rows) next → OutcomeBy (row Lengths (L ⊎ C) ∷ rows) next
     after right (inl a) = inl (inl (a .0), a .1)
     after right (inr a) = inr (⊎-elim (a .0) (λ c. k .apart c right), a .1)
 
-    past : LawfulSize z → D → AnswersBy (row Sizes (SizesOutside z) ∷ row Lengths L ∷ rows) next
-        → AnswersBy (row Lengths (L ⊎ C) ∷ rows) next
+    past : LawfulSize z → D → OutcomeBy (row Sizes (SizesOutside z) ∷ row Lengths L ∷ rows) next
+        → OutcomeBy (row Lengths (L ⊎ C) ∷ rows) next
     past lawful right (inl a) = absurd (a .0 lawful)
     past lawful right (inr a) = after right (a .1)
 
@@ -246,8 +246,8 @@ kept-outcome (Refused f) r = refl
 
 -- the second form of put or undo reads by the rows of the first, and 2 comes from sums and pictures too
 kept-reads : (z : Size) (k : Canvas) (L : Type 0) (rows : List (TableRow Refusal)) (r : ChangeRead)
-    → AnswersBy (row Sizes (SizesOutside z) ∷ row Lengths L ∷ rows) (outcomeOf r)
-    → AnswersBy (row Sizes (SizesOutside z) ∷ row Lengths (L ⊎ CanvasWrong z k) ∷ rows) (outcomeOf (keptRead (canvasFirst z k) r))
+    → OutcomeBy (row Sizes (SizesOutside z) ∷ row Lengths L ∷ rows) (outcomeOf r)
+    → OutcomeBy (row Sizes (SizesOutside z) ∷ row Lengths (L ⊎ CanvasWrong z k) ∷ rows) (outcomeOf (keptRead (canvasFirst z k) r))
 unfolding keptCheck canvasCheck CanvasWrong
 kept-reads z k L rows r first =
     let lengths = canvas-checks z (length (k .sums)) (length (k .values)) (length (k .mattes)) in
@@ -261,7 +261,7 @@ kept-reads z k L rows r first =
 put-kept-goes : (s : State) (a : Ask) (l : Lent) (k : Canvas) → KeptGoesBy (putKeptRows s a l k) s l k (putKeptCall s a l k)
 unfolding putKeptCall putKeptBy putBy changed canvasBy
 put-kept-goes s a l k =
-    call-by outcomeOf (λ (c : Refreshed). c .call .answer .outcome) (λ f. leavesKept (answerOf (Refused f) 0 s) l k)
+    call-by outcomeOf (λ (c : Refreshed). c .call .answer .number) (λ f. leavesKept (answerOf (Refused f) 0 s) l k)
     (λ r. putKeptBy r s l k) (λ r e. rw (change-read r e .1)) (λ r f e. rw (refusal-read r f e)) (λ f. refl) (putKeptRows s a l k)
     (keptRead (canvasFirst (s .size) k) (putRead s a (lengthsOf l) (l .pixels)))
     (kept-reads (s .size) k _ _ _ (put-reads s a l))
@@ -269,7 +269,7 @@ put-kept-goes s a l k =
 undo-kept-goes : (s : State) (l : Lent) (k : Canvas) → KeptGoesBy (undoKeptRows s l k) s l k (undoKeptCall s l k)
 unfolding undoKeptCall undoKeptBy undoBy changed canvasBy
 undo-kept-goes s l k =
-    call-by outcomeOf (λ (c : Refreshed). c .call .answer .outcome) (λ f. leavesKept (answerOf (Refused f) 0 s) l k)
+    call-by outcomeOf (λ (c : Refreshed). c .call .answer .number) (λ f. leavesKept (answerOf (Refused f) 0 s) l k)
     (λ r. undoKeptBy r s l k) (λ r e. rw (change-read r e .1)) (λ r f e. rw (refusal-read r f e)) (λ f. refl) (undoKeptRows s l k)
     (keptRead (canvasFirst (s .size) k) (undoRead s (lengthsOf l) (l .pixels) (l .log)))
     (kept-reads (s .size) k _ _ _ (undo-reads s l))
@@ -278,7 +278,7 @@ show-kept-goes : (s : State) (planes : List ℕ) (v : Views) (sums : List ℕ)
     → ShowKeptGoesBy (showKeptRows s planes v sums) s v sums (showKeptCall s planes v sums)
 unfolding showKeptCall showKeptBy showKeptCheck showBy sumsBy
 show-kept-goes s planes v sums =
-    call-by (λ o. o) (λ (a : ShownKept). a .call .answer .outcome)
+    call-by (λ o. o) (λ (a : ShownKept). a .call .answer .number)
     (λ f. showsKept (answerOf (Refused f) 0 s) v sums) (λ o. showKeptBy o s planes v sums)
     (λ o e. rw e) (λ o f e. rw e) (λ f. refl) (showKeptRows s planes v sums) _
     (also-checked (s .size) (length-checks (length sums) _) _ [] _ (show-first s planes v))
@@ -287,7 +287,7 @@ show-kept-goes s planes v sums =
 total-goes : (s : State) (planes scratch : List ℕ) → TotalGoesBy (totalRows s planes scratch) s scratch (totalCall s planes scratch)
 unfolding totalCall totalBy totalCheck TotalWrong
 total-goes s planes scratch =
-    call-by (λ o. o) (λ (a : Totalled). a .totals .answer .outcome) (λ f. totalled (noTotals (answerOf (Refused f) 0 s)) scratch)
+    call-by (λ o. o) (λ (a : Totalled). a .answer .number) (λ f. totalled (noTotals (answerOf (Refused f) 0 s)) scratch)
     (λ o. totalBy o s planes scratch) (λ o e. rw e) (λ o f e. rw e) (λ f. refl) (totalRows s planes scratch) _
     (first-check (sizes-checks (s .size)) _ _ (λ _.
     first-check (total-checks (s .size) (length planes) (length scratch)) [] Accepted (λ _. last-row)))

@@ -1,22 +1,23 @@
 -- DEMAND 3: for every accepted open and every list of calls the plate reports what the notebook reports and holds what it
 -- holds. DEMAND 2: whatever calls it had, what it shows is plain spreading.
 use mathlib.Core.Path.{_≡_, refl, ap, _∙_}
+use native.Mathlib.Omega.{arith}
 use mathlib.Core.List.{List, [], _∷_}
-use Prim.Native.Nat.{ℕ, zero, suc, _*_, _<_}
+use Prim.Native.Nat.{ℕ, zero, suc, _*_, _≤_, _<_}
 use lib.Dec.{lit<}
 use lib.ListN.{getD, length, replicate}
 use Rattle.kernels_model.specs.Rounding.{shownValue, shownMatte}
 use Rattle.plate_model.specs.Layout.{Size, padded, places, sumsInAll}
 use Rattle.plate_model.specs.Word.{Pixel, empty, Entry}
-use Rattle.plate_model.specs.Refusal.{Refusal, Lengths, Outcome, Accepted, Refused, viewsCheck, openCheck, showCheck, keptCheck, showKeptCheck}
+use Rattle.plate_model.specs.Refusal.{Refusal, Lengths, Outcome, Accepted, Refused, refusalNumber, viewsCheck, openCheck, showCheck, keptCheck, showKeptCheck}
 use Rattle.plate_model.specs.Change.{ChangeRead, NoChange}
 use Rattle.plate_model.specs.Lent.{stateOf, Lent, lengthsOf, Views, Canvas, Ask, ask, inputs}
 use Rattle.plate_model.specs.Calls.{Left, refused, answerOf, zeros, listTo, putBy, putCall, undoBy, undoCall, sumAt, shown, showBy, showCall, openCall}
 use Rattle.plate_model.specs.Kept.{keptRead, canvasFirst, putKeptBy, putKeptCall, undoKeptBy, undoKeptCall, showKeptBy, showKeptCall}
 use Rattle.plate_model.specs.Plain.{matteOf, lightOf, plainSum, plainValues, plainMattes}
-use Rattle.plate_model.specs.Notebook.{Book, bookOf, openBook, both, Report, BookLeft, bookShowBy, bookShow, bookKept, canvasWith, bookPutKept, bookUndoKept, bookShowKept}
+use Rattle.plate_model.specs.Notebook.{Book, bookOf, openBook, both, Report, plain, BookLeft, bookShowBy, bookShow, bookKept, canvasWith, bookPutKept, bookUndoKept, bookShowKept}
 use Rattle.plate_model.specs.Lists.{Byte, codes, Call, Plate, leftBy, putIt, undoIt, fillIt, showIt, putKeptIt, undoKeptIt, showKeptIt, stepOf, seenBy, shownTo, plateStep, bookStep, plateReports, plateAfter, bookReports, bookAfter, Holds, Demand3, Demand2}
-use Rattle.plate_model.proofs.checks.Rows.{by-check}
+use Rattle.plate_model.proofs.checks.Rows.{refusal-some, by-check}
 use Rattle.plate_model.proofs.checks.Conditions.{length-checks}
 use Rattle.plate_model.proofs.checks.Passed.{length-pass, sizes-pass}
 use Rattle.plate_model.proofs.demands.PlainSums.{show-fact}
@@ -46,6 +47,12 @@ module _ (z : Size) (room : ℕ) (planes : List ℕ) (grid : List Pixel) (pile :
   unfolding plainMattes
   mattes-plain = listTo-ext _ _ (places z) (λ i h. rw (sums i h .1))
 
+  -- a refused show is compared by its number alone
+  seen-refused : (n : ℕ) (v : Views) → 1 ≤ n → seenBy n 0 v ≡ plain n 0
+  unfolding seenBy
+  seen-refused zero v some = absurd (omega arith)
+  seen-refused (suc n) v some = refl
+
   show-by : (v : Views) (o : Outcome)
       → Agree z room
       (shownTo (mirror z room planes grid pile) (showBy o (stateOf z (length pile)) planes v))
@@ -54,7 +61,7 @@ module _ (z : Size) (room : ℕ) (planes : List ℕ) (grid : List Pixel) (pile :
   show-by v Accepted =
       agree-still z room planes grid pile kept _ _
       (λ j. record { number = 0; marks = 0; pictures = both (values-plain j) (mattes-plain j) })
-  show-by v (Refused f) = agree-still z room planes grid pile kept _ _ refl
+  show-by v (Refused f) = agree-still z room planes grid pile kept _ _ (seen-refused (refusalNumber f) v (refusal-some f))
 
   -- a plate of its own calls is refused for its views alone
   show-checked : (v : Views)

@@ -9,7 +9,7 @@ use Rattle.kernels_model.specs.Fixed.{planesEach}
 use Rattle.plate_model.specs.Layout.{Size, places, sumsInAll}
 use Rattle.plate_model.specs.Lent.{State, Ask, ask, Lent, lengthsOf, Views, Canvas, canvas}
 use Rattle.plate_model.specs.Marks.{exchanged}
-use Rattle.plate_model.specs.Refusal.{Refusal, Outcome, Accepted, Refused, canvasCheck, openCheck, showCheck, showKeptCheck, keptCheck}
+use Rattle.plate_model.specs.Refusal.{Refusal, Outcome, Accepted, Refused, outcomeNumber, canvasCheck, openCheck, showCheck, showKeptCheck, keptCheck}
 use Rattle.plate_model.specs.Change.{Change, ChangeRead, ToChange, NoChange}
 use Rattle.plate_model.specs.Calls.{listTo, openCall, changed, putBy, putCall, undoBy, undoCall, sumAt, valuesOf, mattesOf, showBy}
 use Rattle.plate_model.specs.Plain.{plainValues, plainMattes}
@@ -20,7 +20,7 @@ use Rattle.plate_model.specs.Lists.{Call, Plate, leftBy, plateStep, plat
 use Rattle.plate_model.specs.Table.{LawfulSize}
 use Rattle.plate_model.specs.Ready.{Changeable}
 use Rattle.plate_model.proofs.numbers.Lists.{length-listTo}
-use Rattle.plate_model.proofs.checks.Rows.{check-passes}
+use Rattle.plate_model.proofs.checks.Rows.{accepted-numbered, check-passes}
 use Rattle.plate_model.proofs.checks.Passed.{sizes-passed, sizes-pass}
 use Rattle.plate_model.proofs.checks.Conditions.{canvas-checks}
 use Rattle.plate_model.proofs.changing.Changes.{no-change, put-ready, undo-ready}
@@ -113,29 +113,39 @@ unfolding paintAll
 paints-kept p [] e = e
 paints-kept p (d ∷ changes) e = paints-kept (paint p d) changes (paint-fresh p d e)
 
--- a show's answer is that of its check
-check-shown : (o : Outcome) (s : State) (planes : List ℕ) (v : Views) → showBy o s planes v .answer .outcome ≡ o
+-- a show's number is that of its check
+check-shown : (o : Outcome) (s : State) (planes : List ℕ) (v : Views) → showBy o s planes v .answer .number ≡ outcomeNumber o
 unfolding showBy
 check-shown Accepted s planes v = refl
 check-shown (Refused f) s planes v = refl
 
--- an accepted show of the second form leaves the state, and writes the plate's sums and pictures
+-- where a show of the second form is accepted, its check accepted
+abbrev keptChecked : State → List ℕ → Views → List ℕ → Outcome
+keptChecked s planes v sums =
+    showKeptCheck s (length planes) (length (v .scratch)) (length (v .values)) (length (v .mattes)) (length sums)
+
+kept-checked : (s : State) (planes : List ℕ) (v : Views) (sums : List ℕ)
+    → showKeptCall s planes v sums .call .answer .number ≡ 0 → keptChecked s planes v sums ≡ Accepted
+unfolding showKeptCall showKeptBy
+kept-checked s planes v sums e = accepted-numbered _ (sym (check-shown _ s planes v) ∙ e)
+
+-- it leaves the state, and writes the plate's sums and pictures
 kept-shown : (s : State) (planes : List ℕ) (v : Views) (sums : List ℕ) →
     let shown = showKeptCall s planes v sums in
-    shown .call .answer .outcome ≡ Accepted → (shown .call .answer .state ≡ s) × (shownCanvas shown ≡ canvasOf (s .size) planes)
+    shown .call .answer .number ≡ 0 → (shown .call .answer .state ≡ s) × (shownCanvas shown ≡ canvasOf (s .size) planes)
 unfolding showKeptCall showKeptBy
-kept-shown s planes v sums e = rw (sym (check-shown _ s planes v) ∙ e) (unfold showBy sumsBy in (refl, refl))
+kept-shown s planes v sums e = rw (kept-checked s planes v sums e) (unfold showBy sumsBy in (refl, refl))
 
 -- and its plate's size is lawful
 kept-lawful : (s : State) (planes : List ℕ) (v : Views) (sums : List ℕ)
-    → showKeptCall s planes v sums .call .answer .outcome ≡ Accepted → LawfulSize (s .size)
-unfolding showKeptCall showKeptBy showKeptCheck
-kept-lawful s planes v sums e = sizes-passed (s .size) _ (sym (check-shown _ s planes v) ∙ e) .0
+    → showKeptCall s planes v sums .call .answer .number ≡ 0 → LawfulSize (s .size)
+unfolding showKeptCheck
+kept-lawful s planes v sums e = sizes-passed (s .size) _ (kept-checked s planes v sums e) .0
 
 -- a painting begins with what is the plate's
 shown-fresh : (p : Plate) (v : Views) (sums : List ℕ) →
     let first = showKeptCall (p .state) (p .buffers .planes) v sums in
-    first .call .answer .outcome ≡ Accepted → Fresh (shownPainting p first)
+    first .call .answer .number ≡ 0 → Fresh (shownPainting p first)
 shown-fresh p v sums e =
     let first = kept-shown (p .state) (p .buffers .planes) v sums e in
     first .1 ∙ ap (λ (s : State). canvasOf (s .size) (p .buffers .planes)) (sym (first .0))
@@ -148,13 +158,13 @@ same-check s s' e planes scratch values mattes sums = rw e
 
 -- so on a plate of the same size, with as many cells, a show that is lent as much has the same answer
 same-answer : (p q : Plate) (v v' : Views) (sums sums' : List ℕ) → StillAs p q → AsMuch v v' sums sums'
-    → showKeptCall (q .state) (q .buffers .planes) v' sums' .call .answer .outcome
-    ≡ showKeptCall (p .state) (p .buffers .planes) v sums .call .answer .outcome
+    → showKeptCall (q .state) (q .buffers .planes) v' sums' .call .answer .number
+    ≡ showKeptCall (p .state) (p .buffers .planes) v sums .call .answer .number
 unfolding showKeptCall showKeptBy
 same-answer p q v v' sums sums' still much =
     check-shown _ (q .state) (q .buffers .planes) v'
     ∙ rw (still .1, much .of-scratch, much .of-values, much .of-mattes, much .of-sums)
-    (same-check (p .state) (q .state) (still .0) _ _ _ _ _)
+    (ap outcomeNumber (same-check (p .state) (q .state) (still .0) _ _ _ _ _))
     ∙ sym (check-shown _ (p .state) (p .buffers .planes) v)
 
 pub paints-fresh : PaintsFresh
