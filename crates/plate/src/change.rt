@@ -1,9 +1,9 @@
 // What a put or an undo is to change, read before anything is touched.
+use crate::check::PixelRead;
 use crate::check::check_put;
 use crate::check::check_undo;
 use crate::word::unpack;
 use crate::word::unpack_entry;
-use kernels::ShapeRead;
 use plate_model::change::Change;
 use plate_model::change::ChangeRead;
 use plate_model::lent::Ask;
@@ -12,15 +12,13 @@ use plate_model::state::Outcome;
 use plate_model::state::Refusal;
 use plate_model::state::State;
 use plate_model::word::EntryRead;
-use plate_model::word::Pixel;
 use plate_model::word::Unpacked;
 ghost use mathlib.Core.Path.{_≡_};
 ghost use lib.ListN.{length};
 ghost use Rattle.plate_model.specs.Lent.{lentLengths};
 ghost use Rattle.plate_model.specs.Change.{putRead, undoRead};
 
-// What a put is to change, by the lengths of planes and log and by the pixels. The shape's number is known once the check has
-// passed.
+// What a put is to change, by the lengths of planes and log and by the pixels.
 pub(crate) fn read_put(
     state: State,
     ask: Ask,
@@ -35,32 +33,24 @@ pub(crate) fn read_put(
         pixels: pixels.len(),
         log: log,
     };
-    let check = check_put(state, ask, lengths);
-    if let Outcome::Refused(why) = check {
-        return ChangeRead::NoChange(why);
+    match check_put(state, ask, lengths) {
+        PixelRead::Asked(new) => {
+            let x = ask.x;
+            let y = ask.y;
+            let place = y * state.size.width + x;
+            let Unpacked::Whole(old) = unpack(pixels[place], state.size.reach) else {
+                return ChangeRead::NoChange(Refusal::StoredWord);
+            };
+            ChangeRead::ToChange(Change {
+                place: place,
+                x: x,
+                y: y,
+                old: old,
+                new: new,
+            })
+        }
+        PixelRead::NotAsked(why) => ChangeRead::NoChange(why),
     }
-    let x = ask.x;
-    let y = ask.y;
-    let width = state.size.width;
-    let place = y * width + x;
-    let Unpacked::Whole(old) = unpack(pixels[place], state.size.reach) else {
-        return ChangeRead::NoChange(Refusal::StoredWord);
-    };
-    let ShapeRead::Known(shape) = kernels::shape::shape_of(ask.shape) else {
-        return ChangeRead::NoChange(Refusal::UnknownShape);
-    };
-    ChangeRead::ToChange(Change {
-        place: place,
-        x: x,
-        y: y,
-        old: old,
-        new: Pixel {
-            value: ask.value,
-            opacity: ask.opacity,
-            shape: shape,
-            radius: ask.radius,
-        },
-    })
 }
 
 // What an undo is to change, by the length of the planes, the pixels and the log: the pixel of the last entry is to come back to

@@ -14,11 +14,20 @@ use plate_model::size::Size;
 use plate_model::state::Outcome;
 use plate_model::state::Refusal;
 use plate_model::state::State;
+use plate_model::word::Pixel;
 ghost use mathlib.Core.Path.{_≡_};
 ghost use Rattle.plate_model.specs.declared.state.Outcome.the-variants.{Accepted};
-ghost use Rattle.plate_model.specs.Refusal.{sizesCheck, lentCheck, plateCheck, askCheck, inputsCheck, openCheck, putCheck, undoCheck, totalCheck, showCheck, showKeptCheck, keptCheck};
+ghost use Rattle.plate_model.specs.Refusal.{sizesCheck, lentCheck, plateCheck, askCheck, inputsCheck, openCheck, undoCheck, totalCheck, showCheck, showKeptCheck, keptCheck};
 ghost use Rattle.plate_model.specs.Table.{LawfulSize};
+ghost use Rattle.plate_model.specs.Change.{askedPixel};
+ghost use Rattle.plate.specs.Asking.{pixelBy, pixelRead};
 ghost use Rattle.plate.specs.Filling.{fillLengths};
+
+// The pixel that a put asks for, or why it is refused.
+pub(crate) enum PixelRead {
+    Asked(Pixel),
+    NotAsked(Refusal),
+}
 
 // 1: whether a plate can have these sizes.
 fn check_sizes(size: Size) -> Outcome
@@ -100,45 +109,51 @@ fn check_plate(state: State, lent: LentLengths) -> Outcome
 }
 
 // 4 to 8: the arguments of a put, whose opacity is always lawful.
-fn check_ask(state: State, ask: Ask, log: usize) -> Outcome
-    ensures { λ r. ⌜ r ≡ askCheck (state .size) (state .count) log ask ⌝ }
+fn check_ask(state: State, ask: Ask, log: usize) -> PixelRead
+    ensures { λ r. ⌜ r ≡ pixelBy (askCheck (state .size) (state .count) log ask) (askedPixel ask) ⌝ }
 {
     let width = state.size.width;
     let height = state.size.height;
     let x = ask.x;
     let y = ask.y;
     let value = ask.value;
+    let read = ask.shape;
     let radius = ask.radius;
     let count = state.count;
     if width <= x {
-        return Outcome::Refused(Refusal::Place);
+        return PixelRead::NotAsked(Refusal::Place);
     }
     if height <= y {
-        return Outcome::Refused(Refusal::Place);
+        return PixelRead::NotAsked(Refusal::Place);
     }
     if VALUE_TOP < value {
-        return Outcome::Refused(Refusal::Value);
+        return PixelRead::NotAsked(Refusal::Value);
     }
-    let ShapeRead::Known(known) = kernels::shape::shape_of(ask.shape) else {
-        return Outcome::Refused(Refusal::UnknownShape);
+    let ShapeRead::Known(shape) = read else {
+        return PixelRead::NotAsked(Refusal::UnknownShape);
     };
-    if kernels::shape::top_under(known, state.size.reach) < radius {
-        return Outcome::Refused(Refusal::LargeRadius);
+    if kernels::shape::top_under(shape, state.size.reach) < radius {
+        return PixelRead::NotAsked(Refusal::LargeRadius);
     }
     if count == log {
-        return Outcome::Refused(Refusal::LogFull);
+        return PixelRead::NotAsked(Refusal::LogFull);
     }
-    Outcome::Accepted
+    PixelRead::Asked(Pixel {
+        value: value,
+        opacity: ask.opacity,
+        shape: shape,
+        radius: radius,
+    })
 }
 
 // All that a put checks but for the stored word.
-pub(crate) fn check_put(state: State, ask: Ask, lent: LentLengths) -> Outcome
-    ensures { λ r. ⌜ r ≡ putCheck state ask lent ⌝ }
+pub(crate) fn check_put(state: State, ask: Ask, lent: LentLengths) -> PixelRead
+    ensures { λ r. ⌜ r ≡ pixelRead state ask lent ⌝ }
 {
     let plate = check_plate(state, lent);
-    let Outcome::Accepted = plate else {
-        return plate;
-    };
+    if let Outcome::Refused(why) = plate {
+        return PixelRead::NotAsked(why);
+    }
     check_ask(state, ask, lent.log)
 }
 

@@ -9,6 +9,7 @@ use crate::clear::clear;
 use crate::mend::mend;
 use crate::pass::Channel;
 use crate::pass::matte_after;
+use crate::put::asked;
 use crate::put::log_and_exchange;
 use crate::show::Image;
 use crate::show::light_channel;
@@ -19,7 +20,6 @@ use crate::state::refused;
 use crate::undo::unlog_and_exchange;
 use kernels_model::fixed::MARGIN;
 use plate_model::change::ChangeRead;
-use plate_model::lent::Ask;
 use plate_model::state::Answer;
 use plate_model::state::Outcome;
 use plate_model::state::State;
@@ -158,15 +158,8 @@ pub fn put_kept(
     if let Outcome::Refused(why) = checked {
         return refused(why, state);
     }
-    let asked = Ask {
-        x: x,
-        y: y,
-        value: value,
-        opacity: opacity,
-        shape: shape,
-        radius: radius,
-    };
-    match read_put(state, asked, planes.len(), pixels, log.len()) {
+    let pixel = asked(x, y, value, opacity, shape, radius);
+    match read_put(state, pixel, planes.len(), pixels, log.len()) {
         ChangeRead::ToChange(change) => {
             mend(size, change, sums, values, mattes);
             log_and_exchange(state, change, planes, pixels, log)

@@ -20,6 +20,8 @@ pub mod undo;
 mod word;
 
 pub use kernels_model::lens::Lens;
+pub use kernels_model::shape::ShapeRead;
+pub use plate_model::lent::Ask;
 pub use plate_model::size::Size;
 pub use plate_model::state::Answer;
 pub use plate_model::state::Outcome;

@@ -34,7 +34,38 @@ pub(crate) fn log_and_exchange(
     accepted(marks, size, count + 1)
 }
 
-// Logs the word at (x, y), takes its marks off and sets the new pixel. A refused put touches nothing.
+// What a put asks for, with the shape that its number names.
+pub(crate) fn asked(x: usize, y: usize, value: u16, opacity: u8, shape: u8, radius: u8) -> Ask
+    ensures { λ r. ⌜ r ≡ ask x y value opacity shape radius ⌝ }
+{
+    let read = kernels::shape::shape_of(shape);
+    Ask {
+        x: x,
+        y: y,
+        value: value,
+        opacity: opacity,
+        shape: read,
+        radius: radius,
+    }
+}
+
+// Logs the word at the place that is asked for, takes its marks off and sets the new pixel. A refused put touches nothing.
+pub fn put_asked(
+    state: State,
+    ask: Ask,
+    planes: &mut [u64],
+    pixels: &mut [u64],
+    log: &mut [u64],
+) -> Answer
+    ensures { λ r. ⌜ leaves r (lentAtExit planes pixels log) ≡ putCall state ask (lentAtEntry planes pixels log) ⌝ }
+{
+    match read_put(state, ask, planes.len(), pixels, log.len()) {
+        ChangeRead::ToChange(change) => log_and_exchange(state, change, planes, pixels, log),
+        ChangeRead::NoChange(why) => refused(why, state),
+    }
+}
+
+// The same at (x, y), by the paper's arguments.
 pub fn put(
     state: State,
     x: usize,
@@ -49,16 +80,6 @@ pub fn put(
 ) -> Answer
     ensures { λ r. ⌜ leaves r (lentAtExit planes pixels log) ≡ putCall state (ask x y value opacity shape radius) (lentAtEntry planes pixels log) ⌝ }
 {
-    let asked = Ask {
-        x: x,
-        y: y,
-        value: value,
-        opacity: opacity,
-        shape: shape,
-        radius: radius,
-    };
-    match read_put(state, asked, planes.len(), pixels, log.len()) {
-        ChangeRead::ToChange(change) => log_and_exchange(state, change, planes, pixels, log),
-        ChangeRead::NoChange(why) => refused(why, state),
-    }
+    let pixel = asked(x, y, value, opacity, shape, radius);
+    put_asked(state, pixel, planes, pixels, log)
 }

@@ -6,8 +6,7 @@ use lib.ListN.{getD}
 use Rattle.kernels_model.specs.declared.shape.Shape.{Shape}
 use Rattle.kernels_model.specs.declared.shape.ShapeRead.{ShapeRead}
 use Rattle.kernels_model.specs.declared.shape.ShapeRead.the-variants.{Known, Unknown}
-use Rattle.kernels_model.specs.Shape.{shapeOf}
-use Rattle.plate_model.specs.Layout.{Size}
+use Rattle.plate_model.specs.Layout.{Size, placeAt}
 use Rattle.plate_model.specs.Lent.{State, Ask, LentLengths}
 use Rattle.plate_model.specs.Word.{Pixel, empty, Unpacked, Whole, Broken, readWord, Entry, EntryRead, Logged, Unreadable, readEntry}
 use Rattle.plate_model.specs.Refusal.{StoredWord, Outcome, Accepted, Refused, putCheck, undoCheck}
@@ -16,9 +15,8 @@ pub use Rattle.plate_model.specs.declared.change.ChangeRead.{ChangeRead}
 pub use Rattle.plate_model.specs.declared.change.ChangeRead.the-variants.{ToChange, NoChange}
 
 -- PUT
--- "place being y × W + x"
 abbrev pub askedPlace : Size → Ask → ℕ
-askedPlace z a = a .y * z .width + a .x
+askedPlace z a = placeAt z (a .x) (a .y)
 
 -- the pixel that an accepted put asks for; a put with no shape is never accepted
 abbrev pub knownShape : ShapeRead → Shape
@@ -26,7 +24,7 @@ knownShape (Known s) = s
 knownShape Unknown = empty .shape
 
 abbrev pub askedPixel : Ask → Pixel
-askedPixel a = record { value = a .value; opacity = a .opacity; shape = knownShape (shapeOf (a .shape)); radius = a .radius }
+askedPixel a = record { value = a .value; opacity = a .opacity; shape = knownShape (a .shape); radius = a .radius }
 
 unfoldable pub putOver : Unpacked → Size → Ask → ChangeRead
 putOver Broken z a = NoChange StoredWord

@@ -22,9 +22,13 @@ padded z = wide z * high z
 abbrev pub cell : Size → ℕ → ℕ → ℕ → ℕ
 cell z p x y = p * padded z + (y * wide z + x)
 
--- the pixels; "place being y × W + x"
+-- the pixels
 abbrev pub places : Size → ℕ
 places z = z .width * z .height
+
+-- "place being y × W + x"
+abbrev pub placeAt : Size → ℕ → ℕ → ℕ
+placeAt z x y = y * z .width + x
 
 -- "the image starting at column and row R + 3": a place's column and row in a padded plane
 abbrev pub columnOf : Size → ℕ → ℕ

@@ -4,6 +4,7 @@ use Prim.Native.Nat.{ℕ}
 use lib.ListN.{length}
 use denote.Ref.{RefT, now}
 use denote.Triple.Both.{Both}
+use Rattle.kernels_model.specs.Shape.{shapeOf}
 use Rattle.plate_model.specs.Layout.{Size}
 pub use Rattle.plate_model.specs.declared.state.State.{State}
 pub use Rattle.plate_model.specs.declared.lent.Ask.{Ask}
@@ -29,9 +30,9 @@ lentLengths planes pixels log = record { planes = planes; pixels = pixels; log =
 abbrev pub lengthsOf : Lent → LentLengths
 lengthsOf l = lentLengths (length (l .planes)) (length (l .pixels)) (length (l .log))
 
--- a put's arguments
+-- a put's arguments, with the shape that its number names
 abbrev pub ask : ℕ → ℕ → ℕ → ℕ → ℕ → ℕ → Ask
-ask x y v a s r = record { x = x; y = y; value = v; opacity = a; shape = s; radius = r }
+ask x y v a s r = record { x = x; y = y; value = v; opacity = a; shape = shapeOf s; radius = r }
 
 -- fill's three inputs
 pub record Inputs : Type 0 where

@@ -140,8 +140,7 @@ unfoldable pub askCheck : Size → ℕ → ℕ → Ask → Outcome
 askCheck z n room a =
     placeCheck z a
     (valueCheck (a .value)
-    (shapeCheck (shapeOf (a .shape))
-    (radiusCheck (z .reach) (shapeOf (a .shape)) (a .radius) (fullCheck n room Accepted))))
+    (shapeCheck (a .shape) (radiusCheck (z .reach) (a .shape) (a .radius) (fullCheck n room Accepted))))
 
 -- 2 for fill's inputs, "W × H each"
 unfoldable pub inputsCheck : Size → ℕ → ℕ → ℕ → Outcome → Outcome

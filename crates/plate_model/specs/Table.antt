@@ -13,11 +13,10 @@ use Rattle.kernels_model.specs.Shape.{shapeOf, topUnder}
 use Rattle.kernels_model.specs.declared.lens.Lens.{Lens}
 use Rattle.kernels_model.specs.Lens.{openingTop, focalTop, focusTop, pitchTop}
 use Rattle.plate_model.specs.Fixed.{planesInAll, scratchPlanes, sideTop, placesTop, reachTop, logTop, wordBits}
-use Rattle.plate_model.specs.Layout.{Size, sizeFrom, padded, places, sumsInAll}
-use Rattle.plate_model.specs.Lent.{State, stateOf, Lent, LentLengths, lengthsOf, Ask, Inputs, Views, Canvas}
+use Rattle.plate_model.specs.Layout.{Size, sizeFrom, padded, places, placeAt, sumsInAll}
+use Rattle.plate_model.specs.Lent.{State, stateOf, Lent, LentLengths, lengthsOf, ask, Inputs, Views, Canvas}
 use Rattle.plate_model.specs.Word.{shapeIn, radiusIn}
 use Rattle.plate_model.specs.Refusal.{Refusal, Sizes, Lengths, LogCount, Place, Value, UnknownShape, LargeRadius, LogFull, LogEmpty, StoredWord, UnlawfulLens, Depth, DepthInside, Outcome, Accepted, Refused, refusalNumber, openCheck}
-use Rattle.plate_model.specs.Change.{askedPlace}
 use Rattle.plate_model.specs.Calls.{Left, refused, Shown, shows, answerOf, openCall, putCall, undoCall, fillCall, showCall}
 use Rattle.plate_model.specs.Kept.{Refreshed, leavesKept, putKeptCall, undoKeptCall, ShownKept, showsKept, showKeptCall}
 use Rattle.plate_model.specs.Total.{Totalled, totalled, noTotals, totalCall}
@@ -146,27 +145,28 @@ InsideLens l d = (d ≢ 0) × (d ≤ l .focal)
 abbrev pub openRows : Size → Lent → List (TableRow Refusal)
 openRows z l = row Sizes (SizesOutside z) ∷ row Lengths (LentWrong z (lengthsOf l)) ∷ []
 
--- a put, by when a length that it is lent is wrong; "For 10, put reads the word at its place"
-abbrev pub putRowsBy : Type 0 → State → Ask → Lent → List (TableRow Refusal)
-putRowsBy wrong s a l =
+-- a put at x and y of a value, a shape's number and a radius, by when a length that it is lent is wrong; "For 10, put reads the word
+-- at its place"
+abbrev pub putRowsBy : Type 0 → State → (x y value shape radius : ℕ) → Lent → List (TableRow Refusal)
+putRowsBy wrong s x y value shape radius l =
     let z = s .size in
     row Sizes (SizesOutside z)
     ∷ row Lengths wrong
     ∷ row LogCount (CountAbove s l)
-    ∷ row Place (PlaceOutside z (a .x) (a .y))
-    ∷ row Value (ValueAbove (a .value))
-    ∷ row UnknownShape (ShapeAbove (a .shape))
-    ∷ row LargeRadius (RadiusAbove (z .reach) (shapeOf (a .shape)) (a .radius))
+    ∷ row Place (PlaceOutside z x y)
+    ∷ row Value (ValueAbove value)
+    ∷ row UnknownShape (ShapeAbove shape)
+    ∷ row LargeRadius (RadiusAbove (z .reach) (shapeOf shape) radius)
     ∷ row LogFull (CountFull s l)
-    ∷ row StoredWord (WordBroken (z .reach) (getD (l .pixels) (askedPlace z a) 0))
+    ∷ row StoredWord (WordBroken (z .reach) (getD (l .pixels) (placeAt z x y) 0))
     ∷ []
 
-abbrev pub putRows : State → Ask → Lent → List (TableRow Refusal)
-putRows s a l = putRowsBy (LentWrong (s .size) (lengthsOf l)) s a l
+abbrev pub putRows : State → (x y value shape radius : ℕ) → Lent → List (TableRow Refusal)
+putRows s x y v n r l = putRowsBy (LentWrong (s .size) (lengthsOf l)) s x y v n r l
 
 -- the second form: "2 can come from this buffer too"
-abbrev pub putKeptRows : State → Ask → Lent → Canvas → List (TableRow Refusal)
-putKeptRows s a l k = putRowsBy (LentWrong (s .size) (lengthsOf l) ⊎ CanvasWrong (s .size) k) s a l
+abbrev pub putKeptRows : State → (x y value shape radius : ℕ) → Lent → Canvas → List (TableRow Refusal)
+putKeptRows s x y v n r l k = putRowsBy (LentWrong (s .size) (lengthsOf l) ⊎ CanvasWrong (s .size) k) s x y v n r l
 
 -- an undo so; "For 10, .. undo the last entry and the word at that entry's place"
 abbrev pub undoRowsBy : Type 0 → State → Lent → List (TableRow Refusal)
@@ -215,15 +215,16 @@ numbersOf rows = map (λ (r : TableRow Refusal). refusalNumber (r .refusal)) row
 
 pub record Orders : Type 0 where
   pub of-open : (z : Size) (l : Lent) → numbersOf (openRows z l) ≡ 1 ∷ 2 ∷ []
-  pub of-put : (s : State) (a : Ask) (l : Lent) → numbersOf (putRows s a l) ≡ 1 ∷ 2 ∷ 3 ∷ 4 ∷ 5 ∷ 6 ∷ 7 ∷ 8 ∷ 10 ∷ []
+  pub of-put : (s : State) (x y v n r : ℕ) (l : Lent)
+      → numbersOf (putRows s x y v n r l) ≡ 1 ∷ 2 ∷ 3 ∷ 4 ∷ 5 ∷ 6 ∷ 7 ∷ 8 ∷ 10 ∷ []
   pub of-undo : (s : State) (l : Lent) → numbersOf (undoRows s l) ≡ 1 ∷ 2 ∷ 3 ∷ 9 ∷ 10 ∷ []
   pub of-fill : (s : State) (o : Lens) (shape : ℕ) (f : Inputs) (l : Lent)
       → numbersOf (fillRows s o shape f l) ≡ 1 ∷ 2 ∷ 3 ∷ 5 ∷ 6 ∷ 11 ∷ 12 ∷ 17 ∷ []
   pub of-show : (s : State) (planes : List ℕ) (v : Views) → numbersOf (showRows s planes v) ≡ 1 ∷ 2 ∷ []
   pub of-total : (s : State) (planes scratch : List ℕ) → numbersOf (totalRows s planes scratch) ≡ 1 ∷ 2 ∷ []
   -- the second forms
-  pub of-put-kept : (s : State) (a : Ask) (l : Lent) (k : Canvas)
-      → numbersOf (putKeptRows s a l k) ≡ 1 ∷ 2 ∷ 3 ∷ 4 ∷ 5 ∷ 6 ∷ 7 ∷ 8 ∷ 10 ∷ []
+  pub of-put-kept : (s : State) (x y v n r : ℕ) (l : Lent) (k : Canvas)
+      → numbersOf (putKeptRows s x y v n r l k) ≡ 1 ∷ 2 ∷ 3 ∷ 4 ∷ 5 ∷ 6 ∷ 7 ∷ 8 ∷ 10 ∷ []
   pub of-undo-kept : (s : State) (l : Lent) (k : Canvas) → numbersOf (undoKeptRows s l k) ≡ 1 ∷ 2 ∷ 3 ∷ 9 ∷ 10 ∷ []
   pub of-show-kept : (s : State) (planes : List ℕ) (v : Views) (sums : List ℕ)
       → numbersOf (showKeptRows s planes v sums) ≡ 1 ∷ 2 ∷ []
@@ -259,12 +260,14 @@ TotalGoesBy rows s scratch call =
 -- paper's table fixes"; the state is "all zero from open"
 pub record Demand1 : Type 0 where
   pub open-by : (z : Size) (l : Lent) → GoesBy (openRows z l) (stateOf (sizeFrom 0 0 0) 0) l (openCall z l)
-  pub put-by : (s : State) (a : Ask) (l : Lent) → GoesBy (putRows s a l) s l (putCall s a l)
+  pub put-by : (s : State) (x y v a n r : ℕ) (l : Lent)
+      → GoesBy (putRows s x y v n r l) s l (putCall s (ask x y v a n r) l)
   pub undo-by : (s : State) (l : Lent) → GoesBy (undoRows s l) s l (undoCall s l)
   pub fill-by : (s : State) (o : Lens) (shape : ℕ) (f : Inputs) (l : Lent)
       → GoesBy (fillRows s o shape f l) s l (fillCall s o shape f l)
   pub show-by : (s : State) (planes : List ℕ) (v : Views) → ShowGoesBy (showRows s planes v) s v (showCall s planes v)
-  pub put-kept-by : (s : State) (a : Ask) (l : Lent) (k : Canvas) → KeptGoesBy (putKeptRows s a l k) s l k (putKeptCall s a l k)
+  pub put-kept-by : (s : State) (x y v a n r : ℕ) (l : Lent) (k : Canvas)
+      → KeptGoesBy (putKeptRows s x y v n r l k) s l k (putKeptCall s (ask x y v a n r) l k)
   pub undo-kept-by : (s : State) (l : Lent) (k : Canvas) → KeptGoesBy (undoKeptRows s l k) s l k (undoKeptCall s l k)
   pub show-kept-by : (s : State) (planes : List ℕ) (v : Views) (sums : List ℕ)
       → ShowKeptGoesBy (showKeptRows s planes v sums) s v sums (showKeptCall s planes v sums)

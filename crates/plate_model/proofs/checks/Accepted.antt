@@ -16,7 +16,7 @@ use Rattle.plate_model.specs.Table.{LawfulSize, LentFor}
 use Rattle.plate_model.specs.Word.{Fits}
 use Rattle.plate_model.proofs.numbers.Extents.{place-within}
 use Rattle.plate_model.proofs.checks.Rows.{check-passed}
-use Rattle.plate_model.proofs.checks.Conditions.{count-checks, place-checks, value-checks, shape-checks, radius-checks, radius-under, full-checks, empty-checks, above-checks, lens-checks}
+use Rattle.plate_model.proofs.checks.Conditions.{count-checks, place-checks, value-checks, shape-checks, named-checks, radius-checks, radius-under, full-checks, empty-checks, above-checks, lens-checks}
 use Rattle.plate_model.proofs.checks.Passed.{sizes-passed, lent-passed}
 
 -- the plate's checks, whatever comes after them
@@ -47,18 +47,17 @@ pub record AskAccepted (z : Size) (count room : ℕ) (a : Ask) : Type 0 where
   pub place-y : a .y < z .height
   pub place-in : askedPlace z a < places z
   pub value-in : a .value ≤ valueTop
-  pub shape-known : shapeOf (a .shape) ≡ Known (knownShape (shapeOf (a .shape)))
-  pub radius-in : a .radius ≤ topUnder (knownShape (shapeOf (a .shape))) (z .reach)
+  pub shape-known : a .shape ≡ Known (knownShape (a .shape))
+  pub radius-in : a .radius ≤ topUnder (knownShape (a .shape)) (z .reach)
   pub not-full : count ≡ room → ⊥
 
 pub ask-accepted : (z : Size) (count room : ℕ) (a : Ask) → askCheck z count room a ≡ Accepted → AskAccepted z count room a
 unfolding askCheck
 ask-accepted z count room a e =
-    let shape = shapeOf (a .shape) in
     let q1 = check-passed (place-checks z a) _ e in
     let q2 = check-passed (value-checks (a .value)) _ (q1 .1) in
-    let q3 = check-passed (shape-checks (a .shape)) _ (q2 .1) in
-    let q4 = check-passed (radius-checks (z .reach) shape (a .radius)) _ (q3 .1) in
+    let q3 = check-passed (named-checks (a .shape)) _ (q2 .1) in
+    let q4 = check-passed (radius-checks (z .reach) (a .shape) (a .radius)) _ (q3 .1) in
     let q5 = check-passed (full-checks count room) _ (q4 .1) in
     record {
       place-x = q1 .0 .0;
@@ -66,7 +65,7 @@ ask-accepted z count room a e =
       place-in = place-within (a .x) (a .y) (z .width) (z .height) (q1 .0 .0) (q1 .0 .1);
       value-in = q2 .0;
       shape-known = q3 .0;
-      radius-in = radius-under (z .reach) shape (a .radius) (q3 .0) (q4 .0);
+      radius-in = radius-under (z .reach) (a .shape) (a .radius) (q3 .0) (q4 .0);
       not-full = q5 .0;
     }
 

@@ -165,6 +165,12 @@ shape-checks n =
     (λ t. passing (shape-apart n) (rw (t .1 .1)) (λ next. rw (t .1 .1)))
     (shape-named n)
 
+-- a shape as it was read
+pub named-checks : (s : ShapeRead) → Checks UnknownShape (s ≡ Unknown) (s ≡ Known (knownShape s)) (shapeCheck s)
+unfolding shapeCheck
+named-checks Unknown = refusing (λ u k. unknown-not (knownShape Unknown) k) refl (λ next. refl)
+named-checks (Known s) = passing (λ u k. unknown-not s (sym u)) refl (λ next. refl)
+
 -- 7
 pub radius-checks : (R : ℕ) (s : ShapeRead) (r : ℕ)
     → Checks LargeRadius (RadiusAbove R s r) (¬ (RadiusAbove R s r)) (radiusCheck R s r)

@@ -10,7 +10,7 @@ use Rattle.kernels_model.specs.Rows.{TableRow, row, FirstOf}
 use Rattle.kernels_model.specs.declared.lens.Lens.{Lens}
 use Rattle.kernels_model.specs.Shape.{shapeOf}
 use Rattle.plate_model.specs.Layout.{Size, sizeFrom}
-use Rattle.plate_model.specs.Lent.{State, stateOf, Lent, lengthsOf, Ask, Inputs, Views, Canvas}
+use Rattle.plate_model.specs.Lent.{State, stateOf, Lent, lengthsOf, Ask, ask, Inputs, Views, Canvas}
 use Rattle.plate_model.specs.Word.{readWord, readEntry}
 use Rattle.plate_model.specs.Refusal.{Refusal, Sizes, Lengths, LogCount, Place, Value, UnknownShape, LargeRadius, LogFull, StoredWord, UnlawfulLens, Depth, DepthInside, Outcome, Accepted, Refused, refusalNumber, outcomeNumber, openCheck, plateCheck, askCheck, putCheck, undoCheck, emptyCheck, fillFirst, layerCheck, fillCheck, viewsCheck, totalCheck, showCheck, sizesCheck, canvasCheck, keptCheck, showKeptCheck}
 use Rattle.plate_model.specs.Change.{Change, ChangeRead, ToChange, NoChange, askedPlace, putOver, putReadBy, putRead, undoOver, undoEntry, undoReadBy, undoRead}
@@ -119,39 +119,41 @@ undo-stored z e pixels (inr t) =
 
 -- PUT
 -- 4 to 8
-ask-first : (z : Size) (n room : ℕ) (a : Ask)
+ask-first : (z : Size) (count room x y v a n r : ℕ)
     → OutcomeBy
-    (row Place (PlaceOutside z (a .x) (a .y))
-    ∷ row Value (ValueAbove (a .value))
-    ∷ row UnknownShape (ShapeAbove (a .shape))
-    ∷ row LargeRadius (RadiusAbove (z .reach) (shapeOf (a .shape)) (a .radius))
-    ∷ row LogFull (n ≡ room)
+    (row Place (PlaceOutside z x y)
+    ∷ row Value (ValueAbove v)
+    ∷ row UnknownShape (ShapeAbove n)
+    ∷ row LargeRadius (RadiusAbove (z .reach) (shapeOf n) r)
+    ∷ row LogFull (count ≡ room)
     ∷ [])
-    (askCheck z n room a)
+    (askCheck z count room (ask x y v a n r))
 unfolding askCheck
-ask-first z n room a =
-    first-check (place-checks z a) _ _ (λ _.
-    first-check (value-checks (a .value)) _ _ (λ _.
-    first-check (shape-checks (a .shape)) _ _ (λ _.
-    first-check (radius-checks (z .reach) (shapeOf (a .shape)) (a .radius)) _ _ (λ _.
-    first-check (full-checks n room) [] Accepted (λ _. last-row)))))
+ask-first z count room x y v a n r =
+    first-check (place-checks z (ask x y v a n r)) _ _ (λ _.
+    first-check (value-checks v) _ _ (λ _.
+    first-check (shape-checks n) _ _ (λ _.
+    first-check (radius-checks (z .reach) (shapeOf n) r) _ _ (λ _.
+    first-check (full-checks count room) [] Accepted (λ _. last-row)))))
 
 -- what it reads goes by the rows
-put-reads : (s : State) (a : Ask) (l : Lent) → OutcomeBy (putRows s a l) (outcomeOf (putRead s a (lengthsOf l) (l .pixels)))
+put-reads : (s : State) (x y v a n r : ℕ) (l : Lent)
+    → OutcomeBy (putRows s x y v n r l) (outcomeOf (putRead s (ask x y v a n r) (lengthsOf l) (l .pixels)))
 unfolding putRead putCheck
-put-reads s a l =
+put-reads s x y v a n r l =
     let z = s .size in
-    let check = plateCheck s (lengthsOf l) (askCheck z (s .count) (length (l .log)) a) in
-    rw (put-outcome check z a (l .pixels))
+    let p = ask x y v a n r in
+    let check = plateCheck s (lengthsOf l) (askCheck z (s .count) (length (l .log)) p) in
+    rw (put-outcome check z p (l .pixels))
     (answers-then _ _ check _
-    (plate-first s l _ _ (λ _. ask-first z (s .count) (length (l .log)) a))
-    (λ _. put-stored z a _ (word-told (z .reach) (getD (l .pixels) (askedPlace z a) 0))))
+    (plate-first s l _ _ (λ _. ask-first z (s .count) (length (l .log)) x y v a n r))
+    (λ _. put-stored z p _ (word-told (z .reach) (getD (l .pixels) (askedPlace z p) 0))))
 
-put-goes : (s : State) (a : Ask) (l : Lent) → GoesBy (putRows s a l) s l (putCall s a l)
+put-goes : (s : State) (x y v a n r : ℕ) (l : Lent) → GoesBy (putRows s x y v n r l) s l (putCall s (ask x y v a n r) l)
 unfolding putCall putBy changed
-put-goes s a l =
-    goes-by outcomeOf s l (λ r. putBy r s l) (λ r e. rw (change-read r e .1)) (λ r f e. rw (refusal-read r f e)) (putRows s a l)
-    (putRead s a (lengthsOf l) (l .pixels)) (put-reads s a l)
+put-goes s x y v a n r l =
+    goes-by outcomeOf s l (λ c. putBy c s l) (λ c e. rw (change-read c e .1)) (λ c f e. rw (refusal-read c f e))
+    (putRows s x y v n r l) (putRead s (ask x y v a n r) (lengthsOf l) (l .pixels)) (put-reads s x y v a n r l)
 
 -- UNDO
 undo-reads : (s : State) (l : Lent) → OutcomeBy (undoRows s l) (outcomeOf (undoRead s (lengthsOf l) (l .pixels) (l .log)))
@@ -258,13 +260,15 @@ kept-reads z k L rows r first =
     )
     (also-checked z lengths L rows (outcomeOf r) first)
 
-put-kept-goes : (s : State) (a : Ask) (l : Lent) (k : Canvas) → KeptGoesBy (putKeptRows s a l k) s l k (putKeptCall s a l k)
+put-kept-goes : (s : State) (x y v a n r : ℕ) (l : Lent) (k : Canvas)
+    → KeptGoesBy (putKeptRows s x y v n r l k) s l k (putKeptCall s (ask x y v a n r) l k)
 unfolding putKeptCall putKeptBy putBy changed canvasBy
-put-kept-goes s a l k =
+put-kept-goes s x y v a n r l k =
     call-by outcomeOf (λ (c : Refreshed). c .call .answer .number) (λ f. leavesKept (answerOf (Refused f) 0 s) l k)
-    (λ r. putKeptBy r s l k) (λ r e. rw (change-read r e .1)) (λ r f e. rw (refusal-read r f e)) (λ f. refl) (putKeptRows s a l k)
-    (keptRead (canvasFirst (s .size) k) (putRead s a (lengthsOf l) (l .pixels)))
-    (kept-reads (s .size) k _ _ _ (put-reads s a l))
+    (λ c. putKeptBy c s l k) (λ c e. rw (change-read c e .1)) (λ c f e. rw (refusal-read c f e)) (λ f. refl)
+    (putKeptRows s x y v n r l k)
+    (keptRead (canvasFirst (s .size) k) (putRead s (ask x y v a n r) (lengthsOf l) (l .pixels)))
+    (kept-reads (s .size) k _ _ _ (put-reads s x y v a n r l))
 
 undo-kept-goes : (s : State) (l : Lent) (k : Canvas) → KeptGoesBy (undoKeptRows s l k) s l k (undoKeptCall s l k)
 unfolding undoKeptCall undoKeptBy undoBy changed canvasBy
@@ -310,12 +314,12 @@ pub orders : Orders
 orders =
     record {
       of-open = λ z l. refl;
-      of-put = λ s a l. refl;
+      of-put = λ s x y v n r l. refl;
       of-undo = λ s l. refl;
       of-fill = λ s o k f l. refl;
       of-show = λ s planes v. refl;
       of-total = λ s planes scratch. refl;
-      of-put-kept = λ s a l k. refl;
+      of-put-kept = λ s x y v n r l k. refl;
       of-undo-kept = λ s l k. refl;
       of-show-kept = λ s planes v sums. refl;
     }

@@ -100,7 +100,7 @@ kept-none Accepted b t h = h
 kept-none (Refused f) b t h = refl
 
 put-few : (b : Book) (a : Ask) → Few (bookPut b a .report)
-put-few b a = few (pixelAt (b .grid) (askedPlace (b .size) a) .shape) (knownShape (shapeOf (a .shape))) _ (book-put b a)
+put-few b a = few (pixelAt (b .grid) (askedPlace (b .size) a) .shape) (knownShape (a .shape)) _ (book-put b a)
 
 book-undo-few : (b : Book) → Few (bookUndo b .report)
 unfolding bookUndo

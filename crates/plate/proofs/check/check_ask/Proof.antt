@@ -1,19 +1,9 @@
 -- Each test is the definition's, in its order; the shape and its top are the kernels'.
-use mathlib.Core.Path.{_≡_, sym, _∙_}
 use borrow.Author.Needs.{needs}
-use Rattle.kernels_model.specs.declared.shape.ShapeRead.the-variants.{Known}
-use Rattle.kernels_model.specs.Shape.{shapeOf}
-use Rattle.kernels_model.proofs.taps.ShapeNumbers.{shape-read}
 use Rattle.plate_model.specs.Refusal.{askCheck, placeCheck, shapeCheck, radiusCheck, refuseIf}
 use Rattle.plate_model.proofs.checks.Conditions.{tests}
 use Rattle.plate.proofs.check.check_ask.Statement.{statement}
 use Rattle.plate.proofs.check.check_ask.Tie as tie
-
--- the shape that was read
-known : (c : tie.After-known)
-    → let asked = c .before .before .before .before .before .before in
-    shapeOf (asked .args .ask .shape) ≡ Known (c .known .given .0 .0)
-known c = sym (shape-read _ _ (c .before .before .shape-of .ensures)) ∙ c .known .given .1
 
 returns : tie.Need-returns
 unfolding askCheck placeCheck shapeCheck radiusCheck refuseIf
@@ -29,25 +19,25 @@ returns-3 c = search tests
 
 returns-4 : tie.Need-returns-4
 unfolding askCheck placeCheck shapeCheck radiusCheck refuseIf
-returns-4 c = rw (← shape-read _ _ (c .before .before .shape-of .ensures), c .enum-told .given .1) (search tests)
+returns-4 c = rw (c .enum-told .given .1) (search tests)
 
 returns-5 : tie.Need-returns-5
 unfolding askCheck placeCheck shapeCheck radiusCheck refuseIf
 returns-5 c =
     let topped = c .before in
-    rw (known (topped .before .before), ← topped .top-under .ensures) (search tests)
+    rw (topped .before .before .read .given .1, ← topped .top-under .ensures) (search tests)
 
 returns-6 : tie.Need-returns-6
 unfolding askCheck placeCheck shapeCheck radiusCheck refuseIf
 returns-6 c =
     let topped = c .before .before in
-    rw (known (topped .before .before), ← topped .top-under .ensures) (search tests)
+    rw (topped .before .before .read .given .1, ← topped .top-under .ensures) (search tests)
 
 returns-7 : tie.Need-returns-7
 unfolding askCheck placeCheck shapeCheck radiusCheck refuseIf
 returns-7 c =
     let topped = c .before .before in
-    rw (known (topped .before .before), ← topped .top-under .ensures) (search tests)
+    rw (topped .before .before .read .given .1, ← topped .top-under .ensures) (search tests)
 
 pub check-ask-spec : {M : Type 1} → statement M
 check-ask-spec =
@@ -56,7 +46,6 @@ check-ask-spec =
     returns
     returns-2
     returns-3
-    (λ c κs. search needs)
     (λ c. search needs)
     (λ c. search needs)
     returns-4

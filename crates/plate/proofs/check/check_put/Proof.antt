@@ -7,7 +7,7 @@ use Rattle.plate.proofs.check.check_put.Tie as tie
 
 returns : tie.Need-returns
 unfolding putCheck
-returns c = rw (plate-before, ← c .before .before .check-plate .ensures, c .enum-told2 .given .1)
+returns c = rw (plate-before, ← c .before .before .before .check-plate .ensures, c .before .plate .given .1)
 
 returns-2 : tie.Need-returns-2
 unfolding putCheck
@@ -18,4 +18,4 @@ returns-2 c =
 pub check-put-spec : {M : Type 1} → statement M
 check-put-spec =
     tie.close
-    (tie.spec (λ c κs. search needs) (λ c. search needs) (λ c. search needs) returns (λ c κs. search needs) returns-2)
+    (tie.spec (λ c κs. search needs) (λ c. search needs) returns (λ c. search needs) (λ c κs. search needs) returns-2)

@@ -17,7 +17,7 @@ use Rattle.plate.proofs.kept.put_kept.Tie as tie
 
 -- where the call starts, and what it is lent
 abbrev start : tie.After-read-put → tie.Start
-start c = c .before .before .before .before .before .before .before .before .before .before .before .before
+start c = c .before .before .before .before .before .before .before .before .before .before .before .before .before
 
 abbrev held : tie.Start → Lent
 held s = lent (now (s .args .planes)) (now (s .args .pixels)) (now (s .args .log))
@@ -30,13 +30,15 @@ asked s = let a = s .args in ask (a .x) (a .y) (a .value) (a .opacity) (a .shape
 
 -- sums and pictures passed the check
 checked : (c : tie.After-read-put) → let s = start c in canvasFirst (s .args .state .size) (kept s) ≡ Accepted
-checked c = let told = c .before .before in sym (told .before .before .check-kept .ensures) ∙ told .enum-told .given .1
+checked c = let told = c .before .before .before in sym (told .before .before .check-kept .ensures) ∙ told .enum-told .given .1
 
 -- the change that was read
 reads : (c : tie.After-change)
     → let s = start (c .before .before) in
     putRead (s .args .state) (asked s) (lengthsOf (held s)) (held s .pixels) ≡ ToChange (c .change .given .0 .0)
-reads c = sym (c .before .before .read-put .ensures) ∙ c .change .given .1
+reads c =
+    let read = c .before .before in
+    rw (← read .before .before .asked .ensures) (sym (read .read-put .ensures) ∙ c .change .given .1)
 
 returns : tie.Need-returns
 unfolding putKeptCall putKeptBy keptRead canvasBy putBy
@@ -69,7 +71,14 @@ returns-3 : tie.Need-returns-3
 unfolding putKeptCall putKeptBy keptRead canvasBy putBy
 returns-3 c =
     let told = c .before .before in
-    rw (c .refused2 .ensures, checked (told .before .before), ← told .before .before .read-put .ensures, told .why .given .1)
+    let read = told .before .before in
+    rw (
+      c .refused2 .ensures,
+      checked read,
+      ← read .before .before .asked .ensures,
+      ← read .read-put .ensures,
+      told .why .given .1,
+    )
 
 pub put-kept-spec : {M : Type 1} → statement M
 put-kept-spec =
@@ -80,6 +89,7 @@ put-kept-spec =
     (λ c κs. search needs)
     returns
     (λ c. search needs)
+    (λ c κs. search needs)
     (λ c κs. search needs)
     (λ c. search needs)
     mend-requires
