@@ -3,9 +3,7 @@ use mathlib.Core.List.{List}
 use Prim.Native.Nat.{ℕ}
 use Rattle.kernels_model.specs.declared.lens.Lens.{Lens}
 use Rattle.plate_model.specs.declared.state.State.{State}
-use Rattle.plate_model.specs.declared.state.Answer.{Answer}
-use Rattle.plate_model.specs.declared.total.Totals.{Totals}
-use Rattle.plate_model.specs.Refusal.{outcomeNumber}
+use Rattle.plate_model.specs.Refusal.{Returned}
 use Rattle.plate_model.specs.Layout.{sizeFrom}
 use Rattle.plate_model.specs.Lent.{stateOf, Lent, Views, Canvas}
 use Rattle.plate_model.specs.Calls.{Left, Shown}
@@ -26,9 +24,9 @@ stateOut s =
 abbrev pub lensIn : LensLens → Lens
 lensIn l = record { opening = l .opening; focal = l .focal; focus = l .focus; pitch = l .pitch }
 
--- the paper's number for the outcome
-abbrev pub answerOut : Answer → LensAnswer
-answerOut a = record { number = outcomeNumber (a .outcome); marks = a .marks; state = stateOut (a .state) }
+-- what a call returns, in the paper's numbers
+abbrev pub answerOut : Returned → LensAnswer
+answerOut a = record { number = a .number; marks = a .marks; state = stateOut (a .state) }
 
 -- what a call answers C, and what it leaves
 pub record LeftOut : Type 0 where
@@ -77,11 +75,11 @@ pub record TotalledOut : Type 0 where
   pub totals : LensTotals
   pub scratch : List ℕ
 
-abbrev pub totalsOut : Totals → LensTotals
-totalsOut t = record { answer = answerOut (t .answer); matte = t .matte; light = t .light }
+abbrev pub totalsOut : Returned → ℕ → ℕ → LensTotals
+totalsOut a matte light = record { answer = answerOut a; matte = matte; light = light }
 
 abbrev pub totalsAndScratch : LensTotals → List ℕ → TotalledOut
 totalsAndScratch t scratch = record { totals = t; scratch = scratch }
 
 abbrev pub totalledOut : Totalled → TotalledOut
-totalledOut t = totalsAndScratch (totalsOut (t .totals)) (t .scratch)
+totalledOut t = totalsAndScratch (totalsOut (t .answer) (t .matte) (t .light)) (t .scratch)

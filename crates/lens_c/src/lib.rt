@@ -7,6 +7,7 @@ use plate::Totals;
 ghost use mathlib.Core.Path.{_≡_};
 ghost use Rattle.plate_model.specs.Layout.{sizeFrom};
 ghost use Rattle.plate_model.specs.Lent.{ask, inputs, lentAtEntry, lentAtExit, viewsAtEntry, viewsAtExit, canvasAtEntry, canvasAtExit};
+ghost use Rattle.plate_model.specs.Refusal.{returned};
 ghost use Rattle.plate_model.specs.Calls.{openCall, putCall, undoCall, fillCall, showCall};
 ghost use Rattle.plate_model.specs.Kept.{putKeptCall, undoKeptCall, showKeptCall};
 ghost use Rattle.plate_model.specs.Total.{totalCall};
@@ -55,9 +56,9 @@ fn state_in(s: LensState) -> State
     }
 }
 
-// The paper's number for an outcome.
+// An answer in the paper's numbers.
 fn answer_out(a: Answer) -> LensAnswer
-    ensures { λ r. ⌜ r ≡ answerOut a ⌝ }
+    ensures { λ r. ⌜ r ≡ answerOut (returned a) ⌝ }
 {
     let outcome = a.outcome;
     LensAnswer {
@@ -73,7 +74,7 @@ fn answer_out(a: Answer) -> LensAnswer
 }
 
 fn totals_out(t: Totals) -> LensTotals
-    ensures { λ r. ⌜ r ≡ totalsOut t ⌝ }
+    ensures { λ r. ⌜ r ≡ totalsOut (returned (t .answer)) (t .matte) (t .light) ⌝ }
 {
     LensTotals {
         answer: answer_out(t.answer),
