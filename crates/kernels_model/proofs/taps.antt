@@ -4,6 +4,6 @@ pub mod TapForms
 pub mod BoxTaps
 pub mod Columns
 pub mod Areas
-pub mod ValueLists
+pub mod TableRows
 pub mod Shares
 pub mod Bands

@@ -24,6 +24,13 @@ shapeCount = 6
 abbrev pub tableRows : ℕ
 tableRows = shapeCount * radii
 
+-- its columns, the share and "the remainder as a second column", and all its numbers
+abbrev pub tableColumns : ℕ
+tableColumns = 2
+
+abbrev pub tableNumbers : ℕ
+tableNumbers = tableColumns * tableRows
+
 -- the planes of a picture: "slopes −2, −1, 0, 1, 2, second box, third box"
 abbrev pub planesEach : ℕ
 planesEach = 7

@@ -6,12 +6,16 @@ pub const UNIT: u32 = 8388608;
 // What a shown matte is counted in.
 pub const MATTE_UNIT: u64 = 8388608;
 
-// The radii of a shape in the table of shares, 0 to 64; its shapes, and its rows.
+// The radii of a shape in the table of shares, 0 to 64; its shapes, its rows, its columns, and all its numbers.
 pub const RADII: usize = 65;
 
 pub const SHAPES: usize = 6;
 
 pub const TABLE_ROWS: usize = SHAPES * RADII;
+
+pub const TABLE_COLUMNS: usize = 2;
+
+pub const TABLE_NUMBERS: usize = TABLE_COLUMNS * TABLE_ROWS;
 
 // The marks of a kernel's centre.
 pub const CENTRE_MARKS: u32 = 4;

@@ -17,7 +17,7 @@ use Rattle.kernels_model.proofs.numbers.Choices.{by-test, by-lt, if-wit
 use Rattle.kernels_model.proofs.numbers.Products.{product-le}
 use Rattle.kernels_model.proofs.taps.TapForms.{box-far, one-box, box-tap}
 use Rattle.kernels_model.proofs.taps.Areas.{weight-le}
-use Rattle.kernels_model.proofs.taps.ValueLists.{both-true}
+use Rattle.kernels_model.proofs.taps.TableRows.{both-true}
 use Rattle.kernels_model.proofs.taps.Shares.{parts-under}
 use Rattle.kernels_model.proofs.taps.BoxTaps.{box-near, two-boxes, three-boxes}
 
