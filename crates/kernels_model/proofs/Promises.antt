@@ -1,11 +1,12 @@
 -- All that is promised of the kernels.
 use Rattle.kernels_model.specs.Promises.{Promises}
-use Rattle.kernels_model.proofs.numbers.Nearest.{even-once, value-to-even, value-top}
+use Rattle.kernels_model.proofs.numbers.Nearest.{even-once, value-to-even, value-top, half-up-once, half-up, matte-half-up, matte-top}
 use Rattle.kernels_model.proofs.sums.SlopeSums.{piece-fact, slope-in}
 use Rattle.kernels_model.proofs.taps.ShapeNumbers.{shape-read, tops-under, count-few}
 use Rattle.kernels_model.proofs.taps.Areas.{whole, shapes-whole, octagon-whole}
 use Rattle.kernels_model.proofs.taps.Shares.{table-share}
 use Rattle.kernels_model.proofs.taps.Bands.{band-is, level-weight}
+use Rattle.kernels_model.proofs.lenses.ThinLens.{radius-half-up, infinity-half-up}
 use Rattle.kernels_model.proofs.marking.LineFact.{line-fact}
 use Rattle.kernels_model.proofs.marking.BoxGrids.{box-fact}
 use Rattle.kernels_model.proofs.marking.Kernel.{kernel}
@@ -35,6 +36,12 @@ promises =
       level = level-weight;
       even-once = even-once;
       value = value-to-even;
-      top = value-top;
+      value-top = value-top;
+      half-up-once = half-up-once;
+      half-up = half-up;
+      matte = matte-half-up;
+      matte-top = matte-top;
+      radius = radius-half-up;
+      infinity = infinity-half-up;
       examples = starred-agree;
     }

@@ -6,7 +6,7 @@ use mathlib.Core.List.{List, [], _∷_}
 use Prim.Native.Nat.{ℕ, zero, suc, _+_, _*_, _-_, _^_, _%_, _≤_, _<_}
 use lib.Dec.{ltb}
 use lib.ListN.{length}
-use Rattle.kernels_model.specs.Fixed.{unit, planesEach, margin, valueTop}
+use Rattle.kernels_model.specs.Fixed.{unit, planesEach, margin, valueTop, matteUnit, matteTop}
 use Rattle.kernels_model.specs.Choice.{pick, within, same, strip}
 use Rattle.kernels_model.specs.Sum.{dist, Plane, down, slope, summed, finish}
 use Rattle.kernels_model.specs.Shape.{Shape, ShapeRead, shapeOf, shapeTold, shapeFor, topOf, countOf, reachOf, topUnder}
@@ -15,7 +15,8 @@ use Rattle.kernels_model.specs.Mark.{Mark, Run, runRow, slopePlane, runM
 use Rattle.kernels_model.specs.Share.{shareParts, shareTable, tableShare}
 use Rattle.kernels_model.specs.Drawing.{drawnMarks, moved, drawingOf}
 use Rattle.kernels_model.specs.Band.{Band, bandFor, bandWeight, isLevel, BandOf}
-use Rattle.kernels_model.specs.Rounding.{shownValue}
+use Rattle.kernels_model.specs.Rounding.{nearest, shownValue, shownMatte}
+use Rattle.kernels_model.specs.Lens.{Lens, lensFactor, lawfulLens, blur}
 
 -- SHAPES
 -- an answer that tells what the number n has to is the shape of n in the table
@@ -171,5 +172,45 @@ ValueFact =
     (light matte : ℕ) → 0 < matte → 2 * light < (2 * valueTop + 1) * matte → ToEven light matte (shownValue light matte)
 
 -- "at most 4,095": from there on it is 4,095
-abbrev pub TopFact : Type 0
-TopFact = (light matte : ℕ) → 0 < matte → (2 * valueTop + 1) * matte ≤ 2 * light → shownValue light matte ≡ valueTop
+abbrev pub ValueTopFact : Type 0
+ValueTopFact = (light matte : ℕ) → 0 < matte → (2 * valueTop + 1) * matte ≤ 2 * light → shownValue light matte ≡ valueTop
+
+-- "to the nearest, a half upwards": v times b is within half of b from a, and where it is exactly half, it is above a
+pub record HalfUp (a b v : ℕ) : Type 0 where
+  pub near : 2 * dist (v * b) a ≤ b
+  pub up : 2 * dist (v * b) a ≡ b → a < v * b
+
+-- no two numbers keep to it for one a and b
+abbrev pub HalfUpOnce : Type 0
+HalfUpOnce = (a b v w : ℕ) → 0 < b → HalfUp a b v → HalfUp a b w → v ≡ w
+
+-- the nearest keeps to it
+abbrev pub NearestFact : Type 0
+NearestFact = (a b : ℕ) → 0 < b → HalfUp a b (nearest a b)
+
+-- the shown matte keeps to it where matte is below 255 and a half times 8,388,608
+abbrev pub MatteFact : Type 0
+MatteFact = (matte : ℕ) → 2 * matte < (2 * matteTop + 1) * matteUnit → HalfUp matte matteUnit (shownMatte matte)
+
+-- "at most 255": from there on it is 255
+abbrev pub MatteTopFact : Type 0
+MatteTopFact = (matte : ℕ) → (2 * matteTop + 1) * matteUnit ≤ 2 * matte → shownMatte matte ≡ matteTop
+
+-- v is a / b "to the nearest, a half upwards", and b is above 0
+abbrev pub HalfUpOf : ℕ → ℕ → ℕ → Type 0
+HalfUpOf a b v = (0 < b) × HalfUp a b v
+
+-- the radius of a lawful lens is that of "500 × D × f × abs(Z − S) / (p × Z × (S − f))"
+abbrev pub RadiusFact : Type 0
+RadiusFact =
+    (l : Lens) (z : ℕ) → lawfulLens l ≡ true → 0 < z
+    → HalfUpOf
+    (lensFactor * l .opening * l .focal * dist z (l .focus))
+    (l .pitch * z * (l .focus - l .focal))
+    (blur l z)
+
+-- "Depth 0 is infinity: 500 × D × f / (p × (S − f))."
+abbrev pub InfinityFact : Type 0
+InfinityFact =
+    (l : Lens) → lawfulLens l ≡ true
+    → HalfUpOf (lensFactor * l .opening * l .focal) (l .pitch * (l .focus - l .focal)) (blur l 0)

@@ -1,5 +1,5 @@
 -- What is proved of the kernels, in one record.
-use Rattle.kernels_model.specs.Facts.{ShapeFact, UnderFact, BoxFact, SlopeFact, PieceFact, LineFact, KernelFact, WholeFact, ShapesWhole, OctagonWhole, CountFact, CountsFew, NearFact, TableFact, DrawnFact, BandFact, LevelFact, EvenOnce, ValueFact, TopFact}
+use Rattle.kernels_model.specs.Facts.{ShapeFact, UnderFact, BoxFact, SlopeFact, PieceFact, LineFact, KernelFact, WholeFact, ShapesWhole, OctagonWhole, CountFact, CountsFew, NearFact, TableFact, DrawnFact, BandFact, LevelFact, EvenOnce, ValueFact, ValueTopFact, HalfUpOnce, NearestFact, MatteFact, MatteTopFact, RadiusFact, InfinityFact}
 use Rattle.kernels_model.specs.Starred.{starred, Agree}
 
 pub record Promises : Type 0 where
@@ -25,9 +25,16 @@ pub record Promises : Type 0 where
   pub drawing : DrawnFact
   pub band : BandFact
   pub level : LevelFact
-  -- rounding
+  -- rounding: the shown value, a half to even
   pub even-once : EvenOnce
   pub value : ValueFact
-  pub top : TopFact
+  pub value-top : ValueTopFact
+  -- the shown matte and the radius from depth, a half upwards
+  pub half-up-once : HalfUpOnce
+  pub half-up : NearestFact
+  pub matte : MatteFact
+  pub matte-top : MatteTopFact
+  pub radius : RadiusFact
+  pub infinity : InfinityFact
   -- the paper's starred examples
   pub examples : Agree starred

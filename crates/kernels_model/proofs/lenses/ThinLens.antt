@@ -5,11 +5,13 @@ use Prim.Native.Nat.{ℕ, zero, suc, _+_, _*_, _-_, _<_, _≤_, min}
 use native.Mathlib.Omega.{arith}
 use borrow.Author.Tests.{ltb-false, leb-false, le-ltb, le-leb, lt-leb}
 use Rattle.kernels_model.proofs.numbers.Products.{product-le}
+use Rattle.kernels_model.proofs.numbers.Nearest.{half-up}
 use Rattle.kernels_model.specs.Fixed.{depthTop, accepted, lensRefused, depthRefused}
 use Rattle.kernels_model.specs.Choice.{pick}
 use Rattle.kernels_model.specs.Told.{Told, told}
 use Rattle.kernels_model.specs.Sum.{dist}
 use Rattle.kernels_model.specs.Rounding.{nearest}
+use Rattle.kernels_model.specs.Facts.{RadiusFact, InfinityFact}
 use Rattle.kernels_model.specs.Lens.{Lens, Radius, Pixels, NoLens, NoDepth, openingTop, focalTop, focusTop, pitchTop, lensFactor, lawfulLens, blur, radiusTold, radiusFor}
 
 -- what a lawful lens keeps to
@@ -117,6 +119,20 @@ pub blur-near :
 unfolding blur
 blur-near l zero some = absurd (some refl)
 blur-near l (suc m) some = refl
+
+-- the divisors are above 0, so that the radius is the formula's, "to the nearest, a half upwards"
+pub infinity-half-up : InfinityFact
+infinity-half-up l e =
+    let some = far-small l (lawful l e) .some in
+    (some, rw (blur-far l 0 refl) (half-up _ _ some))
+
+pub radius-half-up : RadiusFact
+radius-half-up l z e h =
+    let g = lawful l e in
+    let paced : 1 ≤ l .pitch * z = product-le 1 1 (l .pitch) z (g .pitch-some) h in
+    let some : 1 ≤ l .pitch * z * (l .focus - l .focal) =
+    product-le 1 1 (l .pitch * z) (l .focus - l .focal) paced (omega (arith, g .focus-past)) in
+    (some, rw (blur-near l z (λ n. omega arith)) (half-up _ _ some))
 
 -- WHAT A RADIUS TELLS
 pub no-lens : (l : Lens) (top z : ℕ) → lawfulLens l ≡ false → radiusFor l top z ≡ told lensRefused 0

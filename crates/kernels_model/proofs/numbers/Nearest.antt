@@ -6,9 +6,9 @@ use native.Mathlib.Nat.{div-add-mod', mod-lt, mul-le-mul-left, mul-le-mul-right}
 use borrow.Author.Tests.{eqb-true, eqb-false}
 use lib.Arith.{digits-div}
 use lib.Dec.{eqb}
-use Rattle.kernels_model.specs.Fixed.{valueTop}
-use Rattle.kernels_model.specs.Rounding.{nearest, evenFrom, nearestEven, shownValue}
-use Rattle.kernels_model.specs.Facts.{ToEven, EvenOnce, ValueFact, TopFact}
+use Rattle.kernels_model.specs.Fixed.{valueTop, matteUnit, matteTop}
+use Rattle.kernels_model.specs.Rounding.{nearest, evenFrom, nearestEven, shownValue, shownMatte}
+use Rattle.kernels_model.specs.Facts.{ToEven, EvenOnce, ValueFact, ValueTopFact, HalfUp, HalfUpOnce, NearestFact, MatteFact, MatteTopFact}
 use Rattle.kernels_model.proofs.numbers.Choices.{pick-if, by-lt}
 
 -- a quotient by 2 or more is at most half, so one more of it is still a number of 64 bits
@@ -30,6 +30,27 @@ pub nearest-up : (a b : ℕ) → 0 < b → b - a % b ≤ a % b → nearest a b �
 nearest-up a b some h =
     let r : a % b < b = mod-lt a some in
     nearest-at a b (a / b + 1) (2 * (a % b) - b) (omega (arith, div-add-mod' a b)) (omega arith)
+
+-- it is within a half, and above where it is exactly that
+pub half-up : NearestFact
+half-up a b some =
+    let whole = div-add-mod' a b in
+    let rest : a % b < b = mod-lt a some in
+    by-lt (a % b) (b - a % b)
+    (λ h. rw (nearest-down a b h) (record { near = omega (arith, whole); up = λ e. omega (arith, whole) }))
+    (λ h. rw (nearest-up a b some h) (record { near = omega (arith, whole); up = λ e. omega (arith, whole) }))
+
+-- of two such numbers none is the lower: it would be exactly half of b below a
+not-lower : (a b v w : ℕ) → 0 < b → HalfUp a b v → HalfUp a b w → v < w → ⊥
+not-lower a b v w some p q h =
+    let apart = mul-le-mul-right b h in
+    omega (arith, p .up (omega (arith, p .near, q .near)))
+
+pub half-up-once : HalfUpOnce
+half-up-once a b v w some p q =
+    by-lt v w
+    (λ h. absurd (not-lower a b v w some p q h))
+    (λ k. by-lt w v (λ h. absurd (not-lower a b w v some q p h)) (λ l. omega arith))
 
 -- A HALF TO EVEN
 -- how an equation is proved: for a half, and for any other rest
@@ -97,10 +118,27 @@ value-to-even light matte some low =
     rw (value-some light matte (omega arith), whole) e)
 
 -- and from there on at least that
-pub value-top : TopFact
+pub value-top : ValueTopFact
 value-top light matte some high =
     let v = nearestEven light matte in
     let e = to-even light matte some in
     by-lt v valueTop
     (λ (h : v < valueTop). absurd (omega (arith, e .near, mul-le-mul-right matte h)))
     (λ (h : valueTop ≤ v). rw (value-some light matte (omega arith)) (omega arith))
+
+-- THE SHOWN MATTE
+-- below 255 and a half the nearest is at most 255
+pub matte-half-up : MatteFact
+unfolding shownMatte
+matte-half-up matte low =
+    let v = nearest matte matteUnit in
+    let e = half-up matte matteUnit (omega arith) in
+    let whole : min matteTop v ≡ v = omega (arith, e .near) in
+    rw whole e
+
+-- and from there on at least that
+pub matte-top : MatteTopFact
+unfolding shownMatte
+matte-top matte high =
+    let e = half-up matte matteUnit (omega arith) in
+    omega (arith, e .near)
