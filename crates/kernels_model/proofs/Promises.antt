@@ -13,6 +13,7 @@ use Rattle.kernels_model.proofs.marking.Kernel.{kernel}
 use Rattle.kernels_model.proofs.drawing.MarkPlaces.{marks-count, marks-near}
 use Rattle.kernels_model.proofs.drawing.Drawings.{drawn-moved}
 use Rattle.kernels_model.proofs.examples.Starred.{starred-agree}
+use Rattle.kernels_model.proofs.examples.ByHand.{by-hand}
 
 pub promises : Promises
 promises =
@@ -44,4 +45,5 @@ promises =
       radius = radius-half-up;
       infinity = infinity-half-up;
       examples = starred-agree;
+      by-hand = by-hand;
     }

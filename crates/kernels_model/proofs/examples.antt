@@ -1,2 +1,3 @@
--- The paper's starred examples.
+-- The paper's starred examples, and taps and marks worked out by hand.
 pub mod Starred
+pub mod ByHand

@@ -13,4 +13,5 @@ pub mod Facts
 pub mod Rounding
 pub mod Lens
 pub mod Starred
+pub mod Examples
 pub mod Promises

@@ -1,6 +1,7 @@
 -- What is proved of the kernels, in one record.
 use Rattle.kernels_model.specs.Facts.{ShapeFact, UnderFact, BoxFact, SlopeFact, PieceFact, LineFact, KernelFact, WholeFact, ShapesWhole, OctagonWhole, CountFact, CountsFew, NearFact, TableFact, DrawnFact, BandFact, LevelFact, EvenOnce, ValueFact, ValueTopFact, HalfUpOnce, NearestFact, MatteFact, MatteTopFact, RadiusFact, InfinityFact}
 use Rattle.kernels_model.specs.Starred.{starred, Agree}
+use Rattle.kernels_model.specs.Examples.{ByHand}
 
 pub record Promises : Type 0 where
   -- the table of shapes
@@ -38,3 +39,5 @@ pub record Promises : Type 0 where
   pub infinity : InfinityFact
   -- the paper's starred examples
   pub examples : Agree starred
+  -- taps and marks of small kernels, cell by cell
+  pub by-hand : ByHand
