@@ -7,7 +7,7 @@ ghost use mathlib.Core.Path.{_≡_};
 ghost use mathlib.Core.Bool.{true};
 ghost use Prim.Native.Nat.{_≤_};
 ghost use Rattle.kernels_model.specs.Sum.{dist};
-ghost use Rattle.kernels_model.specs.Lens.{lawfulLens, blur, radiusTold, radiusFor};
+ghost use Rattle.kernels_model.specs.Lens.{lawfulLens, blur, radiusAnswer, radiusAnswerFor};
 ghost use Rattle.kernels_model.specs.Fixed.{depthTop};
 
 // The bounds of a lens's numbers.
@@ -81,7 +81,7 @@ fn blurred(l: Lens, depth: u32) -> u64
 
 // The radius of a pixel at a depth, at most the top that its shape and its plate give. Depth 0 is infinity.
 pub fn radius_from(l: Lens, top: u8, depth: u32) -> Radius
-    ensures { λ r. ⌜ radiusTold r ≡ radiusFor l top depth ⌝ }
+    ensures { λ r. ⌜ radiusAnswer r ≡ radiusAnswerFor l top depth ⌝ }
 {
     if !lawful_lens(l) {
         return Radius::NoLens;

@@ -3,7 +3,7 @@ use kernels_model::fixed::CENTRE_MARKS;
 use kernels_model::shape::Shape;
 use kernels_model::shape::ShapeRead;
 ghost use mathlib.Core.Path.{_≡_};
-ghost use Rattle.kernels_model.specs.Shape.{numberOf, shapeTold, shapeFor, boxesOf, topOf, tapCount, countOf, reachOf, topUnder};
+ghost use Rattle.kernels_model.specs.Shape.{numberOf, shapeAnswer, shapeAnswerFor, boxesOf, topOf, tapCount, countOf, reachOf, topUnder};
 
 // The number that stands for a shape outside of this engine.
 pub fn number(s: Shape) -> u8
@@ -21,7 +21,7 @@ pub fn number(s: Shape) -> u8
 
 // The shape that a number names; a number above 5 names none.
 pub fn shape_of(n: u8) -> ShapeRead
-    ensures { λ r. ⌜ shapeTold r ≡ shapeFor n ⌝ }
+    ensures { λ r. ⌜ shapeAnswer r ≡ shapeAnswerFor n ⌝ }
 {
     match n {
         0 => ShapeRead::Known(Shape::Box),

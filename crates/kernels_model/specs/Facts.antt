@@ -9,7 +9,7 @@ use lib.ListN.{length}
 use Rattle.kernels_model.specs.Fixed.{unit, planesEach, margin, valueTop, matteUnit, matteTop}
 use Rattle.kernels_model.specs.Choice.{pick, within, same, strip}
 use Rattle.kernels_model.specs.Sum.{dist, Plane, down, slope, summed, finish}
-use Rattle.kernels_model.specs.Shape.{Shape, ShapeRead, shapeOf, shapeTold, shapeFor, topOf, countOf, reachOf, topUnder}
+use Rattle.kernels_model.specs.Shape.{Shape, ShapeRead, shapeOf, shapeAnswer, shapeAnswerFor, topOf, countOf, reachOf, topUnder}
 use Rattle.kernels_model.specs.Tap.{boxTap, octagonTap, Taps, squareSum, weighted, weight}
 use Rattle.kernels_model.specs.Mark.{Mark, Run, runRow, slopePlane, runMarks, boxMarks, tapMarks, scaled, marks, planesOf}
 use Rattle.kernels_model.specs.Share.{shareParts, shareTable, tableShare}
@@ -19,9 +19,9 @@ use Rattle.kernels_model.specs.Rounding.{nearest, shownValue, shownMatte
 use Rattle.kernels_model.specs.Lens.{Lens, lensFactor, lawfulLens, blur}
 
 -- SHAPES
--- an answer that tells what the number n has to is the shape of n in the table
+-- an answer with the number and the value that the one for n has to have is the shape of n in the table
 abbrev pub ShapeFact : Type 0
-ShapeFact = (a : ShapeRead) (n : ℕ) → shapeTold a ≡ shapeFor n → a ≡ shapeOf n
+ShapeFact = (a : ShapeRead) (n : ℕ) → shapeAnswer a ≡ shapeAnswerFor n → a ≡ shapeOf n
 
 -- "so r is also at most R / n rounded down": a radius is at most the top under R exactly where it is at most the shape's top and
 -- the kernel reaches at most R

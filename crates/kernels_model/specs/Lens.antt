@@ -4,7 +4,7 @@ use Prim.Native.Nat.{ℕ, zero, suc, _*_, _-_, min}
 use lib.Dec.{leb, ltb}
 use Rattle.kernels_model.specs.Fixed.{depthTop, accepted, lensRefused, depthRefused}
 use Rattle.kernels_model.specs.Choice.{pick}
-use Rattle.kernels_model.specs.Told.{Told, told}
+use Rattle.kernels_model.specs.NumberAndValue.{NumberAndValue, numberAndValue}
 use Rattle.kernels_model.specs.Sum.{dist}
 use Rattle.kernels_model.specs.Rounding.{nearest}
 pub use Rattle.kernels_model.specs.declared.lens.Lens.{Lens}
@@ -51,15 +51,15 @@ blur l (suc m) =
     (l .pitch * suc m * (l .focus - l .focal))
 
 -- the paper's number and value for each answer: a radius in pixels is accepted
-unfoldable pub radiusTold : Radius → Told
-radiusTold (Pixels r) = told accepted r
-radiusTold NoLens = told lensRefused 0
-radiusTold NoDepth = told depthRefused 0
+unfoldable pub radiusAnswer : Radius → NumberAndValue
+radiusAnswer (Pixels r) = numberAndValue accepted r
+radiusAnswer NoLens = numberAndValue lensRefused 0
+radiusAnswer NoDepth = numberAndValue depthRefused 0
 
--- what the answer for a lens, a top and a depth has to tell: "then at most the shape's top under R"; "D, f, S or p outside" is
+-- those that the answer for a lens, a top and a depth has to have: "then at most the shape's top under R"; "D, f, S or p outside" is
 -- 11, "a depth above 10,000,000" is 12
-unfoldable pub radiusFor : Lens → ℕ → ℕ → Told
-radiusFor l top z =
+unfoldable pub radiusAnswerFor : Lens → ℕ → ℕ → NumberAndValue
+radiusAnswerFor l top z =
     pick (lawfulLens l)
-    (pick (leb z depthTop) (told accepted (min top (blur l z))) (told depthRefused 0))
-    (told lensRefused 0)
+    (pick (leb z depthTop) (numberAndValue accepted (min top (blur l z))) (numberAndValue depthRefused 0))
+    (numberAndValue lensRefused 0)

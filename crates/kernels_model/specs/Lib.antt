@@ -1,6 +1,6 @@
 pub mod Fixed
 pub mod Choice
-pub mod Told
+pub mod NumberAndValue
 pub mod Rows
 pub mod Sum
 pub mod Shape

@@ -7,7 +7,7 @@ use Rattle.kernels_model.specs.Sum.{Planes}
 use Rattle.kernels_model.specs.Shape.{Shape, Box, Tent, Triple, Diamond, Hexagon, Octagon}
 use Rattle.kernels_model.specs.Tap.{half, share, rest}
 
--- a mark: in one of a picture's planes, at a column and a row, with a signed coefficient
+-- a mark: in one of a picture's planes, at a column and a row, with a coefficient, which is a natural number
 pub record Mark : Type 0 where
   pub plane : ℕ
   pub column : ℕ
@@ -17,7 +17,7 @@ pub record Mark : Type 0 where
 abbrev pub mark : ℕ → ℕ → ℕ → ℕ → Mark
 mark p x y c = record { plane = p; column = x; row = y; coefficient = c }
 
--- what wraps to -w: w and minus w add up to 2^64 times w
+-- minus w is the natural number that wraps to −w: w and minus w add up to 2^64 times w
 unfoldable pub minus : ℕ → ℕ
 minus w = (2 ^ 64 - 1) * w
 

@@ -5,7 +5,7 @@ use lib.ListN.{getD}
 use lib.Dec.{ltb}
 use Rattle.kernels_model.specs.Fixed.{shapeCount, centreCount, accepted, shapeRefused}
 use Rattle.kernels_model.specs.Choice.{pick}
-use Rattle.kernels_model.specs.Told.{Told, told}
+use Rattle.kernels_model.specs.NumberAndValue.{NumberAndValue, numberAndValue}
 pub use Rattle.kernels_model.specs.declared.shape.Shape.{Shape}
 pub use Rattle.kernels_model.specs.declared.shape.Shape.the-variants.{Box, Tent, Triple, Diamond, Hexagon, Octagon}
 pub use Rattle.kernels_model.specs.declared.shape.ShapeRead.{ShapeRead}
@@ -28,13 +28,13 @@ abbrev pub shapeOf : ℕ → ShapeRead
 shapeOf n = getD shapes n Unknown
 
 -- the paper's number and value for each answer: a known shape is accepted, and its value is its number
-unfoldable pub shapeTold : ShapeRead → Told
-shapeTold (Known s) = told accepted (numberOf s)
-shapeTold Unknown = told shapeRefused 0
+unfoldable pub shapeAnswer : ShapeRead → NumberAndValue
+shapeAnswer (Known s) = numberAndValue accepted (numberOf s)
+shapeAnswer Unknown = numberAndValue shapeRefused 0
 
--- what the answer for the number n has to tell: "shape above 5" is 6
-unfoldable pub shapeFor : ℕ → Told
-shapeFor n = pick (ltb n shapeCount) (told accepted n) (told shapeRefused 0)
+-- those that the answer for the number n has to have: "shape above 5" is 6
+unfoldable pub shapeAnswerFor : ℕ → NumberAndValue
+shapeAnswerFor n = pick (ltb n shapeCount) (numberAndValue accepted n) (numberAndValue shapeRefused 0)
 
 -- "With n boxes (1, 2, 3) ..; n is 1 for shapes 3 to 5."
 abbrev pub boxesOf : Shape → ℕ

@@ -8,11 +8,11 @@ use Rattle.kernels_model.proofs.numbers.Products.{product-le}
 use Rattle.kernels_model.proofs.numbers.Nearest.{half-up}
 use Rattle.kernels_model.specs.Fixed.{depthTop, accepted, lensRefused, depthRefused}
 use Rattle.kernels_model.specs.Choice.{pick}
-use Rattle.kernels_model.specs.Told.{Told, told}
+use Rattle.kernels_model.specs.NumberAndValue.{NumberAndValue, numberAndValue}
 use Rattle.kernels_model.specs.Sum.{dist}
 use Rattle.kernels_model.specs.Rounding.{nearest}
 use Rattle.kernels_model.specs.Facts.{RadiusFact, InfinityFact}
-use Rattle.kernels_model.specs.Lens.{Lens, Radius, Pixels, NoLens, NoDepth, openingTop, focalTop, focusTop, pitchTop, lensFactor, lawfulLens, blur, radiusTold, radiusFor}
+use Rattle.kernels_model.specs.Lens.{Lens, Radius, Pixels, NoLens, NoDepth, openingTop, focalTop, focusTop, pitchTop, lensFactor, lawfulLens, blur, radiusAnswer, radiusAnswerFor}
 
 -- what a lawful lens keeps to
 pub record Lawful (l : Lens) : Type 0 where
@@ -134,28 +134,30 @@ radius-half-up l z e h =
     product-le 1 1 (l .pitch * z) (l .focus - l .focal) paced (omega (arith, g .focus-past)) in
     (some, rw (blur-near l z (λ n. omega arith)) (half-up _ _ some))
 
--- WHAT A RADIUS TELLS
-pub no-lens : (l : Lens) (top z : ℕ) → lawfulLens l ≡ false → radiusFor l top z ≡ told lensRefused 0
-unfolding radiusFor
+-- THE ANSWER FOR A RADIUS
+pub no-lens : (l : Lens) (top z : ℕ) → lawfulLens l ≡ false → radiusAnswerFor l top z ≡ numberAndValue lensRefused 0
+unfolding radiusAnswerFor
 no-lens l top z e = simp e
 
-pub no-depth : (l : Lens) (top z : ℕ) → lawfulLens l ≡ true → depthTop < z → radiusFor l top z ≡ told depthRefused 0
-unfolding radiusFor
+pub no-depth : (l : Lens) (top z : ℕ) → lawfulLens l ≡ true → depthTop < z
+    → radiusAnswerFor l top z ≡ numberAndValue depthRefused 0
+unfolding radiusAnswerFor
 no-depth l top z e h = simp (e, lt-leb z depthTop h)
 
 pub in-pixels :
-    (l : Lens) (top z : ℕ) → lawfulLens l ≡ true → z ≤ depthTop → radiusFor l top z ≡ told accepted (min top (blur l z))
-unfolding radiusFor
+    (l : Lens) (top z : ℕ) → lawfulLens l ≡ true → z ≤ depthTop
+    → radiusAnswerFor l top z ≡ numberAndValue accepted (min top (blur l z))
+unfolding radiusAnswerFor
 in-pixels l top z e h = simp (e, le-leb z depthTop h)
 
 -- an accepted radius is one of pixels
-pixels-told : (r : Radius) (m : ℕ) → radiusTold r ≡ told accepted m → r ≡ Pixels m
-unfolding radiusTold
-pixels-told (Pixels r) m e = ap Pixels (ap (λ (t : Told). t .value) e)
-pixels-told NoLens m e = absurd (omega (arith, ap (λ (t : Told). t .number) e))
-pixels-told NoDepth m e = absurd (omega (arith, ap (λ (t : Told). t .number) e))
+pixels-answered : (r : Radius) (m : ℕ) → radiusAnswer r ≡ numberAndValue accepted m → r ≡ Pixels m
+unfolding radiusAnswer
+pixels-answered (Pixels r) m e = ap Pixels (ap (λ (t : NumberAndValue). t .value) e)
+pixels-answered NoLens m e = absurd (omega (arith, ap (λ (t : NumberAndValue). t .number) e))
+pixels-answered NoDepth m e = absurd (omega (arith, ap (λ (t : NumberAndValue). t .number) e))
 
 -- the radius that is read, for a lawful lens and depth
-pub radius-read : (r : Radius) (l : Lens) (top z : ℕ) → radiusTold r ≡ radiusFor l top z
+pub radius-read : (r : Radius) (l : Lens) (top z : ℕ) → radiusAnswer r ≡ radiusAnswerFor l top z
     → lawfulLens l ≡ true → z ≤ depthTop → r ≡ Pixels (min top (blur l z))
-radius-read r l top z t e h = pixels-told r (min top (blur l z)) (t ∙ in-pixels l top z e h)
+radius-read r l top z t e h = pixels-answered r (min top (blur l z)) (t ∙ in-pixels l top z e h)

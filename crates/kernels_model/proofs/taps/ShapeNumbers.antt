@@ -7,8 +7,8 @@ use lib.ListN.{List·getD-eq-default}
 use borrow.Author.Tests.{lt-ltb, le-ltb}
 use Rattle.kernels_model.specs.Fixed.{radii, shapeCount, accepted, shapeRefused}
 use Rattle.kernels_model.specs.Facts.{ShapeFact, UnderFact, CountsFew}
-use Rattle.kernels_model.specs.Told.{Told, told}
-use Rattle.kernels_model.specs.Shape.{Shape, Box, Tent, Triple, Diamond, Hexagon, Octagon, ShapeRead, Known, Unknown, numberOf, boxesOf, topOf, shapes, shapeOf, shapeTold, shapeFor, reachOf, topUnder}
+use Rattle.kernels_model.specs.NumberAndValue.{NumberAndValue, numberAndValue}
+use Rattle.kernels_model.specs.Shape.{Shape, Box, Tent, Triple, Diamond, Hexagon, Octagon, ShapeRead, Known, Unknown, numberOf, boxesOf, topOf, shapes, shapeOf, shapeAnswer, shapeAnswerFor, reachOf, topUnder}
 use Rattle.kernels_model.proofs.numbers.Choices.{by-lt}
 
 pub number-le : (s : Shape) → numberOf s ≤ shapeCount - 1
@@ -87,27 +87,27 @@ number-back Hexagon = refl
 number-back Octagon = refl
 
 -- WHAT A SHAPE TELLS
-pub shape-above : (n : ℕ) → shapeCount ≤ n → shapeFor n ≡ told shapeRefused 0
-unfolding shapeFor
+pub shape-above : (n : ℕ) → shapeCount ≤ n → shapeAnswerFor n ≡ numberAndValue shapeRefused 0
+unfolding shapeAnswerFor
 shape-above n h = simp (le-ltb n shapeCount h)
 
-shape-in : (n : ℕ) → n < shapeCount → shapeFor n ≡ told accepted n
-unfolding shapeFor
+shape-in : (n : ℕ) → n < shapeCount → shapeAnswerFor n ≡ numberAndValue accepted n
+unfolding shapeAnswerFor
 shape-in n h = simp (lt-ltb n shapeCount h)
 
-known-told : (r : ShapeRead) (n : ℕ) → shapeTold r ≡ told accepted n → r ≡ shapeOf n
-unfolding shapeTold
-known-told (Known s) n e = sym (number-back s) ∙ ap shapeOf (ap (λ (t : Told). t .value) e)
-known-told Unknown n e = absurd (omega (arith, ap (λ (t : Told). t .number) e))
+known-answered : (r : ShapeRead) (n : ℕ) → shapeAnswer r ≡ numberAndValue accepted n → r ≡ shapeOf n
+unfolding shapeAnswer
+known-answered (Known s) n e = sym (number-back s) ∙ ap shapeOf (ap (λ (t : NumberAndValue). t .value) e)
+known-answered Unknown n e = absurd (omega (arith, ap (λ (t : NumberAndValue). t .number) e))
 
-unknown-told : (r : ShapeRead) (n : ℕ) → shapeCount ≤ n → shapeTold r ≡ told shapeRefused 0 → r ≡ shapeOf n
-unfolding shapeTold
-unknown-told (Known s) n h e = absurd (omega (arith, ap (λ (t : Told). t .number) e))
-unknown-told Unknown n h e = sym (shape-past n h)
+unknown-answered : (r : ShapeRead) (n : ℕ) → shapeCount ≤ n → shapeAnswer r ≡ numberAndValue shapeRefused 0 → r ≡ shapeOf n
+unfolding shapeAnswer
+unknown-answered (Known s) n h e = absurd (omega (arith, ap (λ (t : NumberAndValue). t .number) e))
+unknown-answered Unknown n h e = sym (shape-past n h)
 
 -- the shape that is read for a number is the number's
 pub shape-read : ShapeFact
 shape-read r n e =
     by-lt n shapeCount
-    (λ h. known-told r n (e ∙ shape-in n h))
-    (λ h. unknown-told r n h (e ∙ shape-above n h))
+    (λ h. known-answered r n (e ∙ shape-in n h))
+    (λ h. unknown-answered r n h (e ∙ shape-above n h))

@@ -12,7 +12,7 @@ use Rattle.kernels_model.specs.Shape.{shapeOf, topUnder}
 use Rattle.kernels_model.specs.declared.lens.Lens.{Lens}
 use Rattle.kernels_model.specs.declared.lens.Radius.{Radius}
 use Rattle.kernels_model.specs.declared.lens.Radius.the-variants.{Pixels}
-use Rattle.kernels_model.specs.Lens.{lawfulLens, blur, radiusTold, radiusFor}
+use Rattle.kernels_model.specs.Lens.{lawfulLens, blur, radiusAnswer, radiusAnswerFor}
 use Rattle.kernels_model.proofs.lenses.ThinLens.{radius-read}
 use Rattle.plate_model.specs.Word.{empty, wordOf}
 use Rattle.plate_model.specs.declared.state.State.{State}
@@ -36,7 +36,7 @@ use Rattle.kernels_model.specs.Fixed.{depthTop}
 -- ONE PIXEL
 -- the radius that a lawful lens gives a lawful depth
 pub radius-is : (l : Lens) (top z r : ℕ) (a : Radius) → lawfulLens l ≡ true → z ≤ depthTop
-    → radiusTold a ≡ radiusFor l top z → a ≡ Pixels r → r ≡ min top (blur l z)
+    → radiusAnswer a ≡ radiusAnswerFor l top z → a ≡ Pixels r → r ≡ min top (blur l z)
 radius-is l top z r a e h p q =
     let same : Pixels r ≡ Pixels (min top (blur l z)) = sym q ∙ radius-read a l top z p e h in
     cc
