@@ -3,7 +3,8 @@ use kernels_model::fixed::CENTRE_MARKS;
 use kernels_model::shape::Shape;
 use kernels_model::shape::ShapeRead;
 ghost use mathlib.Core.Path.{_≡_};
-ghost use Rattle.kernels_model.specs.Shape.{numberOf, shapeAnswer, shapeAnswerFor, boxesOf, topOf, tapCount, countOf, reachOf, topUnder};
+ghost use Rattle.kernels_model.specs.Shape.{numberOf, shapeAnswer, shapeAnswerFor, boxesOf, topOf, tapCount, countOf, reachOf};
+ghost use Rattle.kernels_model.specs.Shape.{topUnder};
 
 // The number that stands for a shape outside of this engine.
 pub fn number(s: Shape) -> u8

@@ -856,8 +856,8 @@ fn area_of(s: Shape, radius: u8) -> u32
     }
 }
 
-// Share and remainder of one kernel, worked out: for one or two kernels that is quicker than making the table. 0 above the shape's
-// top.
+// Share and remainder of one kernel, worked out: for one or two kernels that is quicker than making the table. 0 above the
+// shape's top.
 pub fn share_of(s: Shape, radius: u8) -> Share
     ensures { λ r. ⌜ r ≡ shareParts s radius ⌝ }
 {

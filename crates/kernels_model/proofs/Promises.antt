@@ -1,6 +1,7 @@
 -- All that is promised of the kernels.
 use Rattle.kernels_model.specs.Promises.{Promises}
-use Rattle.kernels_model.proofs.numbers.Nearest.{even-once, value-to-even, value-top, half-up-once, half-up, matte-half-up, matte-top}
+use Rattle.kernels_model.proofs.numbers.Nearest.{even-once, value-to-even, value-top, half-up-once, half-up, matte-half-up}
+use Rattle.kernels_model.proofs.numbers.Nearest.{matte-top}
 use Rattle.kernels_model.proofs.sums.SlopeSums.{piece-fact, slope-in}
 use Rattle.kernels_model.proofs.taps.ShapeNumbers.{shape-read, tops-under, count-few}
 use Rattle.kernels_model.proofs.taps.Areas.{whole, shapes-whole, octagon-whole}

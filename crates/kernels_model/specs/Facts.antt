@@ -1,5 +1,5 @@
--- What is proved of kernels, their marks and sums, and of rounding, as statements. Cells are compared at 2^64, since "Sums wrap at
--- 2^64 on the way".
+-- What is proved of kernels, their marks and sums, and of rounding, as statements. Cells are compared at 2^64, since "Sums wrap
+-- at 2^64 on the way".
 use mathlib.Core.Path.{_≡_}
 use mathlib.Core.Bool.{true}
 use mathlib.Core.List.{List, [], _∷_}
@@ -9,7 +9,8 @@ use lib.ListN.{length}
 use Rattle.kernels_model.specs.Fixed.{unit, planesEach, margin, valueTop, matteUnit, matteTop}
 use Rattle.kernels_model.specs.Choice.{pick, within, same, strip}
 use Rattle.kernels_model.specs.Sum.{dist, Plane, down, slope, summed, finish}
-use Rattle.kernels_model.specs.Shape.{Shape, ShapeRead, shapeOf, shapeAnswer, shapeAnswerFor, topOf, countOf, reachOf, topUnder}
+use Rattle.kernels_model.specs.Shape.{Shape, ShapeRead, shapeOf, shapeAnswer, shapeAnswerFor, topOf, countOf, reachOf}
+use Rattle.kernels_model.specs.Shape.{topUnder}
 use Rattle.kernels_model.specs.Tap.{boxTap, octagonTap, Taps, squareSum, weighted, weight}
 use Rattle.kernels_model.specs.Mark.{Mark, Run, runRow, slopePlane, runMarks, boxMarks, tapMarks, scaled, marks, planesOf}
 use Rattle.kernels_model.specs.Share.{shareParts, shareTable, tableShare}

@@ -56,8 +56,8 @@ radiusAnswer (Pixels r) = numberAndValue accepted r
 radiusAnswer NoLens = numberAndValue lensRefused 0
 radiusAnswer NoDepth = numberAndValue depthRefused 0
 
--- those that the answer for a lens, a top and a depth has to have: "then at most the shape's top under R"; "D, f, S or p outside" is
--- 11, "a depth above 10,000,000" is 12
+-- those that the answer for a lens, a top and a depth has to have: "then at most the shape's top under R"; "D, f, S or p outside"
+-- is 11, "a depth above 10,000,000" is 12
 unfoldable pub radiusAnswerFor : Lens → ℕ → ℕ → NumberAndValue
 radiusAnswerFor l top z =
     pick (lawfulLens l)

@@ -1,5 +1,8 @@
 -- What is proved of the kernels, in one record.
-use Rattle.kernels_model.specs.Facts.{ShapeFact, UnderFact, BoxFact, SlopeFact, PieceFact, LineFact, KernelFact, WholeFact, ShapesWhole, OctagonWhole, CountFact, CountsFew, NearFact, TableFact, DrawnFact, BandFact, LevelFact, EvenOnce, ValueFact, ValueTopFact, HalfUpOnce, NearestFact, MatteFact, MatteTopFact, RadiusFact, InfinityFact}
+use Rattle.kernels_model.specs.Facts.{ShapeFact, UnderFact, BoxFact, SlopeFact, PieceFact, LineFact, KernelFact, WholeFact}
+use Rattle.kernels_model.specs.Facts.{ShapesWhole, OctagonWhole, CountFact, CountsFew, NearFact, TableFact, DrawnFact}
+use Rattle.kernels_model.specs.Facts.{BandFact, LevelFact, EvenOnce, ValueFact, ValueTopFact, HalfUpOnce, NearestFact}
+use Rattle.kernels_model.specs.Facts.{MatteFact, MatteTopFact, RadiusFact, InfinityFact}
 use Rattle.kernels_model.specs.Starred.{starred, Agree}
 use Rattle.kernels_model.specs.Examples.{ByHand}
 

@@ -11,8 +11,8 @@ pub record TableRow (F : Type 0) : Type 1 where
 abbrev pub row : {F : Type 0} → F → Type 0 → TableRow F
 row f given = record { refusal = f; given = given }
 
--- "The lowest number that applies is given": of the rows, in the order in which the call checks them, the call says the refusal of
--- the first that applies, and where none does it is accepted
+-- "The lowest number that applies is given": of the rows, in the order in which the call checks them, the call says the refusal
+-- of the first that applies, and where none does it is accepted
 unfoldable pub FirstOf : {F : Type 0} → (F → Type 0) → Type 0 → List (TableRow F) → Type 0
 FirstOf says accepted [] = accepted
 FirstOf says accepted (r ∷ rows) = (r .given × says (r .refusal)) ⊎ ((¬ (r .given)) × FirstOf says accepted rows)

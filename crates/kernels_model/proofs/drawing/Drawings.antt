@@ -7,7 +7,8 @@ use native.Mathlib.Omega.{arith}
 use Rattle.kernels_model.specs.Fixed.{level, secondBox, thirdBox, margin}
 use Rattle.kernels_model.specs.Shape.{Shape, Box, Tent, Triple, Diamond, Hexagon, Octagon, reachOf}
 use Rattle.kernels_model.specs.Tap.{half}
-use Rattle.kernels_model.specs.Mark.{run, lineMarks, flipped, outlineMarks, boxGrid, boxMarks, diamondMarks, hexagonMarks, octagonMarks, tapMarks}
+use Rattle.kernels_model.specs.Mark.{run, lineMarks, flipped, outlineMarks, boxGrid, boxMarks, diamondMarks, hexagonMarks}
+use Rattle.kernels_model.specs.Mark.{octagonMarks, tapMarks}
 use Rattle.kernels_model.specs.Drawing.{Lines, drawnMarks, linePieces, outlineOf, drawingOf}
 use Rattle.kernels_model.specs.Facts.{DrawnFact}
 use Rattle.kernels_model.proofs.drawing.MarkPlaces.{tap-marks-moved}

@@ -8,7 +8,9 @@ use lib.ListN.{length, length-append}
 use Rattle.kernels_model.specs.Fixed.{centreCount, planesEach, level, secondBox, thirdBox, margin}
 use Rattle.kernels_model.specs.Shape.{Shape, Box, Tent, Triple, Diamond, Hexagon, Octagon, reachOf, tapCount}
 use Rattle.kernels_model.specs.Tap.{half, share, rest}
-use Rattle.kernels_model.specs.Mark.{Mark, mark, minus, sign, choose, Run, runRow, lineMarks, flipped, outlineMarks, marksTo, boxGrid, boxMarks, twoRuns, diamondMarks, hexagonMarks, octagonMarks, tapMarks, scaled, centreMarks, marks}
+use Rattle.kernels_model.specs.Mark.{Mark, mark, minus, sign, choose, Run, runRow, lineMarks, flipped, outlineMarks}
+use Rattle.kernels_model.specs.Mark.{marksTo, boxGrid, boxMarks, twoRuns, diamondMarks, hexagonMarks, octagonMarks}
+use Rattle.kernels_model.specs.Mark.{tapMarks, scaled, centreMarks, marks}
 use Rattle.kernels_model.specs.Facts.{Inside, CountFact, Each, Near, NearFact}
 use Rattle.kernels_model.proofs.marking.MarkLists.{each-append, each-one, each-to}
 use Rattle.kernels_model.proofs.marking.Kernel.{Walks, diamond-walks, hexagon-walks, octagon-walks}

@@ -3,11 +3,13 @@ use mathlib.Core.Path.{refl}
 use Rattle.kernels_model.specs.Choice.{within, same}
 use Rattle.kernels_model.specs.Sum.{sum}
 use Rattle.kernels_model.specs.Tap.{tap, octagonTap, area, shareFor, restFor}
-use Rattle.kernels_model.specs.Mark.{minus, sign, choose, marksTo, boxGrid, boxMarks, lineMarks, flipped, outlineMarks, diamondMarks, hexagonMarks, octagonMarks, tapMarks, scaled, centreMarks, marks}
+use Rattle.kernels_model.specs.Mark.{minus, sign, choose, marksTo, boxGrid, boxMarks, lineMarks, flipped, outlineMarks}
+use Rattle.kernels_model.specs.Mark.{diamondMarks, hexagonMarks, octagonMarks, tapMarks, scaled, centreMarks, marks}
 use Rattle.kernels_model.specs.Examples.{valuesFrom, tapRows, ByHand}
 
 pub by-hand : ByHand
-unfolding valuesFrom tapRows within same sum tap octagonTap area shareFor restFor minus sign choose marksTo boxGrid boxMarks lineMarks flipped outlineMarks diamondMarks hexagonMarks octagonMarks tapMarks scaled centreMarks marks
+unfolding valuesFrom tapRows within same sum tap octagonTap area shareFor restFor minus sign choose marksTo boxGrid boxMarks
+    lineMarks flipped outlineMarks diamondMarks hexagonMarks octagonMarks tapMarks scaled centreMarks marks
 by-hand =
     record {
       octagon-taps = refl;

@@ -17,7 +17,8 @@ unfolding shareFor countedArea
 wide-share = ap (λ (n : ℕ). unit / n) (area-counted Box 64)
 
 pub starred-agree : Agree starred
-unfolding Agree area shareFor tap octagonTap boxTap convolved box shift one sum within same blur nearest nearestEven shownValue shownMatte
+unfolding Agree area shareFor tap octagonTap boxTap convolved box shift one sum within same blur
+    nearest nearestEven shownValue shownMatte
 starred-agree = (
   refl,
   (

@@ -12,7 +12,8 @@ use Rattle.kernels_model.specs.NumberAndValue.{NumberAndValue, numberAnd
 use Rattle.kernels_model.specs.Sum.{dist}
 use Rattle.kernels_model.specs.Rounding.{nearest}
 use Rattle.kernels_model.specs.Facts.{RadiusFact, InfinityFact}
-use Rattle.kernels_model.specs.Lens.{Lens, Radius, Pixels, NoLens, NoDepth, openingTop, focalTop, focusTop, pitchTop, lensFactor, lawfulLens, blur, radiusAnswer, radiusAnswerFor}
+use Rattle.kernels_model.specs.Lens.{Lens, Radius, Pixels, NoLens, NoDepth, openingTop, focalTop, focusTop, pitchTop}
+use Rattle.kernels_model.specs.Lens.{lensFactor, lawfulLens, blur, radiusAnswer, radiusAnswerFor}
 
 -- what a lawful lens keeps to
 pub record Lawful (l : Lens) : Type 0 where

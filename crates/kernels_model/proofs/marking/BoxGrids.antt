@@ -10,9 +10,11 @@ use Rattle.kernels_model.specs.Tap.{shift, convolved, one, boxTap}
 use Rattle.kernels_model.specs.Mark.{Mark, mark, minus, sign, choose, marksTo, boxGrid, boxMarks, planesOf}
 use Rattle.kernels_model.specs.Facts.{BoxFact, Each}
 use Rattle.kernels_model.proofs.numbers.Choices.{if-within, same-yes, same-no, same-as, same-mul}
-use Rattle.kernels_model.proofs.sums.FiniteSums.{sum-ext, sum-add, sum-mul, sum-zero, sum-front, sum-product, cong-mul, sum-cong}
+use Rattle.kernels_model.proofs.sums.FiniteSums.{sum-ext, sum-add, sum-mul, sum-zero, sum-front, sum-product, cong-mul}
+use Rattle.kernels_model.proofs.sums.FiniteSums.{sum-cong}
 use Rattle.kernels_model.proofs.sums.BoxSums.{scale, mix, rowMarks, row-boxes, boxes-mark}
-use Rattle.kernels_model.proofs.sums.PlaneSums.{_≈²_, product, summed-product, product-cong, summed-cong, Boxed, finish-boxes}
+use Rattle.kernels_model.proofs.sums.PlaneSums.{_≈²_, product, summed-product, product-cong, summed-cong, Boxed}
+use Rattle.kernels_model.proofs.sums.PlaneSums.{finish-boxes}
 use Rattle.kernels_model.proofs.taps.TapForms.{box-far, taps-dist}
 use Rattle.kernels_model.proofs.marking.MarkLists.{planes-to, each-one, each-to, alone}
 
@@ -94,7 +96,8 @@ row-marks c (suc n) l s x =
     rw b (omega arith)
 
 -- OVER BOTH AXES
-one-mark : (m : Mark) (p x y : ℕ) → planesOf (m ∷ []) p x y ≡ same p (m .plane) (same x (m .column) (same y (m .row) (m .coefficient)))
+one-mark : (m : Mark) (p x y : ℕ)
+    → planesOf (m ∷ []) p x y ≡ same p (m .plane) (same x (m .column) (same y (m .row) (m .coefficient)))
 unfolding planesOf
 one-mark m p x y = omega arith
 
@@ -121,13 +124,16 @@ mark-product n l s t x y i j =
     let g = same x (s + i * l) 1 * same y (t + j * l) 1 in
     let a = cross x y (s + i * l) (t + j * l) (sign (i + j) * c) in
     let b = power-sign (i + j) in
-    let d = regroup (power (2 ^ 64 - 1) i) (choose n i) (same x (s + i * l) 1) (power (2 ^ 64 - 1) j) (choose n j) (same y (t + j * l) 1) in
+    let d =
+    regroup (power (2 ^ 64 - 1) i) (choose n i) (same x (s + i * l) 1)
+    (power (2 ^ 64 - 1) j) (choose n j) (same y (t + j * l) 1) in
     sym (ap (λ (z : ℕ). z % 2 ^ 64) (d ∙ rw (power-add (2 ^ 64 - 1) i j))
     ∙ cong-mul (2 ^ 64) _ _ _ _ (cong-mul (2 ^ 64) _ (sign (i + j)) c c b refl) refl
     ∙ ap (λ (z : ℕ). z % 2 ^ 64) a)
 
 grid-cell : (n l s t x y : ℕ)
-    → sum (λ i. sum (λ j. same x (s + i * l) (same y (t + j * l) (sign (i + j) * (choose n i * choose n j)))) (suc n)) (suc n) % 2 ^ 64
+    → sum (λ i. sum (λ j. same x (s + i * l) (same y (t + j * l) (sign (i + j) * (choose n i * choose n j)))) (suc n)) (suc n)
+    % 2 ^ 64
     ≡ product (rowMarks (2 ^ 64 - 1) n l (λ x. same x s 1)) (rowMarks (2 ^ 64 - 1) n l (λ y. same y t 1)) x y % 2 ^ 64
 unfolding product
 grid-cell n l s t x y =
@@ -155,7 +161,8 @@ grid-plane c n l s t x y =
 
 -- summed n times, it is on each axis the boxes that start at the first mark
 grid-summed : (c n l s t x y : ℕ)
-    → summed n (planesOf (boxGrid c n l s t) c) x y % 2 ^ 64 ≡ shift s (convolved n l one) x * shift t (convolved n l one) y % 2 ^ 64
+    → summed n (planesOf (boxGrid c n l s t) c) x y % 2 ^ 64
+    ≡ shift s (convolved n l one) x * shift t (convolved n l one) y % 2 ^ 64
 grid-summed c n l s t x y =
     let f = rowMarks (2 ^ 64 - 1) n l (λ x. same x s 1) in
     let g = rowMarks (2 ^ 64 - 1) n l (λ y. same y t 1) in

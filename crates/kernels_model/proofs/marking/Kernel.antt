@@ -8,7 +8,8 @@ use Rattle.kernels_model.specs.Sum.{dist, finish}
 use Rattle.kernels_model.specs.Shape.{Shape, Box, Tent, Triple, Diamond, Hexagon, Octagon, reachOf}
 use Rattle.kernels_model.specs.Choice.{within, same}
 use Rattle.kernels_model.specs.Tap.{boxTap, half, tap, octagonTap, share, rest, weight}
-use Rattle.kernels_model.specs.Mark.{Run, run, flipped, threeRuns, twoRuns, diamondMarks, hexagonMarks, octagonMarks, tapMarks, scaled, centreMarks, marks, planesOf}
+use Rattle.kernels_model.specs.Mark.{Run, run, flipped, threeRuns, twoRuns, diamondMarks, hexagonMarks, octagonMarks}
+use Rattle.kernels_model.specs.Mark.{tapMarks, scaled, centreMarks, marks, planesOf}
 use Rattle.kernels_model.specs.Facts.{columnsOf, rowAt, Inside, KernelFact}
 use Rattle.kernels_model.proofs.numbers.Choices.{by-lt, if-within, same-yes, same-no, same-mul}
 use Rattle.kernels_model.proofs.sums.FiniteSums.{cong-add, cong-mul}
@@ -16,7 +17,8 @@ use Rattle.kernels_model.proofs.sums.PlaneSums.{up2, up1, up0, down1, d
 use Rattle.kernels_model.proofs.marking.BoxGrids.{box-kernel}
 use Rattle.kernels_model.proofs.marking.LineFact.{row-first, row-rest, Sloping}
 use Rattle.kernels_model.proofs.marking.MarkLists.{finish-append, finish-scaled}
-use Rattle.kernels_model.proofs.taps.TapForms.{box-tap, columnTap, diamondHeight, hexagonHeight, octagonHeight, diamond-columns, hexagon-columns, octagon-columns}
+use Rattle.kernels_model.proofs.taps.TapForms.{box-tap, columnTap, diamondHeight, hexagonHeight, octagonHeight}
+use Rattle.kernels_model.proofs.taps.TapForms.{diamond-columns, hexagon-columns, octagon-columns}
 use Rattle.kernels_model.proofs.marking.Outlines.{outline-fact}
 
 -- SHAPES 3 TO 5: the row of the top line is the half height above the middle
@@ -163,8 +165,10 @@ centre-kernel : (c X Y x y : ℕ)
     → c * finish (planesOf (centreMarks X Y)) x y % 2 ^ 64 ≡ same (dist x X) 0 (same (dist y Y) 0 c) % 2 ^ 64
 unfolding centreMarks
 centre-kernel c X Y x y =
-    cong-mul (2 ^ 64) c c _ _ refl (box-kernel first 0 X Y x y (omega arith) (omega arith) ∙ ap (λ (n : ℕ). n % 2 ^ 64) (point-tap dx dy))
-    ∙ ap (λ (n : ℕ). n % 2 ^ 64) (sym (same-mul c dx 0 (same dy 0 1)) ∙ ap (same dx 0) (sym (same-mul c dy 0 1) ∙ ap (same dy 0) (omega arith)))
+    cong-mul (2 ^ 64) c c _ _ refl
+    (box-kernel first 0 X Y x y (omega arith) (omega arith) ∙ ap (λ (n : ℕ). n % 2 ^ 64) (point-tap dx dy))
+    ∙ ap (λ (n : ℕ). n % 2 ^ 64)
+    (sym (same-mul c dx 0 (same dy 0 1)) ∙ ap (same dx 0) (sym (same-mul c dy 0 1) ∙ ap (same dy 0) (omega arith)))
   where
     dx : ℕ
     dx = dist x X

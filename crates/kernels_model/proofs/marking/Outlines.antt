@@ -35,7 +35,8 @@ flipped-sloping [] h = tt
 flipped-sloping (s ∷ rest) h = (turned (h .0), flipped-sloping rest (h .1))
 
 -- a line and the same line turned upside down keep the same middle
-mirror : (runs : List Run) (t b i : ℕ) → Inside runs t → Inside (flipped runs) b → rowAt runs t i + rowAt (flipped runs) b i ≡ t + b
+mirror : (runs : List Run) (t b i : ℕ) → Inside runs t → Inside (flipped runs) b
+    → rowAt runs t i + rowAt (flipped runs) b i ≡ t + b
 unfolding flipped Inside
 mirror [] t b i v w = unfold rowAt in refl
 mirror (s ∷ rest) t b i v w =

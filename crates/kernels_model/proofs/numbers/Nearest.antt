@@ -8,7 +8,8 @@ use lib.Arith.{digits-div}
 use lib.Dec.{eqb}
 use Rattle.kernels_model.specs.Fixed.{valueTop, matteUnit, matteTop}
 use Rattle.kernels_model.specs.Rounding.{nearest, evenFrom, nearestEven, shownValue, shownMatte}
-use Rattle.kernels_model.specs.Facts.{ToEven, EvenOnce, ValueFact, ValueTopFact, HalfUp, HalfUpOnce, NearestFact, MatteFact, MatteTopFact}
+use Rattle.kernels_model.specs.Facts.{ToEven, EvenOnce, ValueFact, ValueTopFact, HalfUp, HalfUpOnce, NearestFact, MatteFact}
+use Rattle.kernels_model.specs.Facts.{MatteTopFact}
 use Rattle.kernels_model.proofs.numbers.Choices.{pick-if, by-lt}
 
 -- a quotient by 2 or more is at most half, so one more of it is still a number of 64 bits

@@ -1,5 +1,5 @@
--- One law for every list of rows: a call that goes by them is accepted exactly where none applies, says one thing only, and goes on
--- with further rows where these accept.
+-- One law for every list of rows: a call that goes by them is accepted exactly where none applies, says one thing only, and goes
+-- on with further rows where these accept.
 use mathlib.Core.Logic.{inl, inr}
 use mathlib.Core.List.{List, [], _∷_, _++_}
 use Rattle.kernels_model.specs.Rows.{TableRow, FirstOf}

@@ -6,7 +6,8 @@ use native.Mathlib.Omega.{arith}
 use Rattle.kernels_model.specs.Choice.{within, same}
 use Rattle.kernels_model.specs.Sum.{sum, Row, running}
 use Rattle.kernels_model.specs.Tap.{shift, box, convolved, one}
-use Rattle.kernels_model.proofs.numbers.Choices.{by-lt, by-eq, if-within, within-yes, within-no, same-yes, same-no, same-as}
+use Rattle.kernels_model.proofs.numbers.Choices.{by-lt, by-eq, if-within, within-yes, within-no, same-yes, same-no}
+use Rattle.kernels_model.proofs.numbers.Choices.{same-as}
 use Rattle.kernels_model.proofs.sums.FiniteSums.{sum-ext, sum-add, sum-mul, sum-zero, sum-same, _≈_, sum-cong}
 
 -- w times a row, and c times one row more
@@ -75,7 +76,9 @@ running-next : (f : Row) (l x : ℕ) → shift l (running f) x ≡ shift l f x +
 unfolding shift running sum
 running-next f l x =
     by-lt x l
-    (λ h. omega (arith, within-no l x (running f (x - l)) h, within-no l x (f (x - l)) h, within-no (suc l) x (running f (x - suc l)) (omega arith)))
+    (λ h.
+    let past = within-no (suc l) x (running f (x - suc l)) (omega arith) in
+    omega (arith, within-no l x (running f (x - l)) h, within-no l x (f (x - l)) h, past))
     (λ h. rw (within-yes l x (running f (x - l)), within-yes l x (f (x - l))) (by-lt x (suc l)
     (λ k. let z : x - l ≡ 0 = omega arith in rw z (omega (arith, within-no (suc l) x (running f (x - suc l)) k)))
     (λ k. let z : x - l ≡ suc (x - suc l) = omega arith in rw z (omega (arith, within-yes (suc l) x (running f (x - suc l)) k)))))

@@ -80,10 +80,16 @@ unfolding sum
 sum-same a w zero = sym (within-no (suc a) 0 w (omega arith))
 sum-same a w (suc n) =
     by-lt a n
-    (λ g. omega (arith, sum-same a w n, within-yes (suc a) n w g, within-yes (suc a) (suc n) w (omega arith), same-no n a w (omega arith)))
+    (λ g.
+    let next = within-yes (suc a) (suc n) w (omega arith) in
+    omega (arith, sum-same a w n, within-yes (suc a) n w g, next, same-no n a w (omega arith)))
     (λ g. by-eq n a
-    (λ e. omega (arith, sum-same a w n, within-no (suc a) n w (omega arith), within-yes (suc a) (suc n) w (omega arith), same-yes n a w e))
-    (λ d. omega (arith, sum-same a w n, within-no (suc a) n w (omega arith), within-no (suc a) (suc n) w (omega arith), same-no n a w d)))
+    (λ e.
+    let next = within-yes (suc a) (suc n) w (omega arith) in
+    omega (arith, sum-same a w n, within-no (suc a) n w (omega arith), next, same-yes n a w e))
+    (λ d.
+    let next = within-no (suc a) (suc n) w (omega arith) in
+    omega (arith, sum-same a w n, within-no (suc a) n w (omega arith), next, same-no n a w d)))
 
 -- AT 2^64
 infix 4 _≈_

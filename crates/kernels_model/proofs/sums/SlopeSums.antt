@@ -7,7 +7,8 @@ use Rattle.kernels_model.specs.Choice.{within, same, strip}
 use Rattle.kernels_model.specs.Sum.{Plane, slope}
 use Rattle.kernels_model.specs.Mark.{Run, runRow, slopePlane, runMarks, planesOf}
 use Rattle.kernels_model.specs.Facts.{slopeIn, SlopeFact, runSum, PieceFact}
-use Rattle.kernels_model.proofs.numbers.Choices.{by-lt, if-within, within-yes, within-no, same-yes, same-no, same-as, same-add, same-mul, strip-in, strip-left, strip-right}
+use Rattle.kernels_model.proofs.numbers.Choices.{by-lt, if-within, within-yes, within-no, same-yes, same-no, same-as}
+use Rattle.kernels_model.proofs.numbers.Choices.{same-add, same-mul, strip-in, strip-left, strip-right}
 
 -- w at one cell
 unfoldable at-cell : ℕ → ℕ → ℕ → Plane

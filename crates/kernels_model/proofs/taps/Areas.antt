@@ -8,12 +8,15 @@ use Rattle.kernels_model.specs.Fixed.{unit}
 use Rattle.kernels_model.specs.Choice.{same}
 use Rattle.kernels_model.specs.Sum.{sum, Row, dist}
 use Rattle.kernels_model.specs.Shape.{Shape, Box, Tent, Triple, Diamond, Hexagon, Octagon, reachOf}
-use Rattle.kernels_model.specs.Tap.{shift, box, convolved, one, boxTap, half, octagonTap, tap, Taps, squareSum, area, shareFor, restFor, rest, weight}
+use Rattle.kernels_model.specs.Tap.{shift, box, convolved, one, boxTap, half, octagonTap, tap, Taps, squareSum, area}
+use Rattle.kernels_model.specs.Tap.{shareFor, restFor, rest, weight}
 use Rattle.kernels_model.specs.Facts.{WholeFact, ShapesWhole, OctagonWhole}
 use Rattle.kernels_model.proofs.numbers.Choices.{by-lt, by-eq, within-yes, if-same, same-yes, same-no, same-as}
-use Rattle.kernels_model.proofs.sums.FiniteSums.{sum-ext, sum-ext-lt, sum-add, sum-mul, sum-zero, sum-const, sum-swap, sum-product, term-le, sum-same}
+use Rattle.kernels_model.proofs.sums.FiniteSums.{sum-ext, sum-ext-lt, sum-add, sum-mul, sum-zero, sum-const, sum-swap}
+use Rattle.kernels_model.proofs.sums.FiniteSums.{sum-product, term-le, sum-same}
 use Rattle.kernels_model.proofs.sums.BoxSums.{sum-shift}
-use Rattle.kernels_model.proofs.taps.TapForms.{taps-dist, box-tap, diamondHeight, hexagonHeight, octagonHeight, diamond-columns, hexagon-columns, octagon-columns, far-x, far-y}
+use Rattle.kernels_model.proofs.taps.TapForms.{taps-dist, box-tap, diamondHeight, hexagonHeight, octagonHeight}
+use Rattle.kernels_model.proofs.taps.TapForms.{diamond-columns, hexagon-columns, octagon-columns, far-x, far-y}
 use Rattle.kernels_model.proofs.taps.Columns.{outline-area}
 
 -- AREAS

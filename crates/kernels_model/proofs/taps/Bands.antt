@@ -12,7 +12,8 @@ use Rattle.kernels_model.specs.Shape.{Shape, Box, Tent, Triple, Diamond,
 use Rattle.kernels_model.specs.Tap.{boxTap, half, octagonTap, tap, share, rest, weight}
 use Rattle.kernels_model.specs.Share.{Share, shareFrom}
 use Rattle.kernels_model.specs.Facts.{BandFact, LevelFact}
-use Rattle.kernels_model.specs.Band.{heightOf, rowRadius, ownTap, spanOf, Band, rowBand, noBand, bandFor, bandTap, bandWeight, isLevel, BandOf}
+use Rattle.kernels_model.specs.Band.{heightOf, rowRadius, ownTap, spanOf, Band, rowBand, noBand, bandFor, bandTap}
+use Rattle.kernels_model.specs.Band.{bandWeight, isLevel, BandOf}
 use Rattle.kernels_model.proofs.numbers.Choices.{by-test, by-lt, if-within, within-yes, within-no, within-as, if-same}
 use Rattle.kernels_model.proofs.numbers.Products.{product-le}
 use Rattle.kernels_model.proofs.taps.TapForms.{box-far, one-box, box-tap}
@@ -83,7 +84,9 @@ both-some a b p q = product-le 1 1 a b p q
 pub centre-tap : (s : Shape) (r : ℕ) → tap s r 0 0 ≢ 0
 centre-tap s r e =
     let some : 0 < ownTap s r 0 * boxTap (boxesOf s) (rowRadius s r 0) 0 =
-    both-some _ _ (box-near (boxesOf s) (heightOf s r) 0 (omega arith)) (box-near (boxesOf s) (rowRadius s r 0) 0 (omega arith)) in
+    both-some _ _
+    (box-near (boxesOf s) (heightOf s r) 0 (omega arith))
+    (box-near (boxesOf s) (rowRadius s r 0) 0 (omega arith)) in
     omega (arith, row-taps s r 0 0)
 
 -- so the remainder, which lies there, is on a tap too, and a cell with no tap has no weight
@@ -162,7 +165,8 @@ row-is s r dy =
       has-tap = λ dx. row-some s r dx dy;
       no-tap = λ dx. row-none s r dx dy;
       span-in =
-          omega (arith, span-le s r dy, product-le (boxesOf s) (rowRadius s r dy) (boxesOf s) r (omega arith) (row-narrow s r dy));
+          let narrow = product-le (boxesOf s) (rowRadius s r dy) (boxesOf s) r (omega arith) (row-narrow s r dy) in
+          omega (arith, span-le s r dy, narrow);
     }
 
 -- and so is the row that is handed out, up to the shape's top
@@ -193,7 +197,9 @@ three-le : (r d : ℕ) → 2 * boxTap 3 r d ≤ (3 * r + 1) * (3 * r + 2)
 three-le r d =
     by-lt (3 * r) d
     (λ g. omega (arith, box-far 3 r d g))
-    (λ g. omega (arith, three-boxes r d g, product-le (3 * r + 1 - d) (3 * r + 1 - d + 1) (3 * r + 1) (3 * r + 2) (omega arith) (omega arith)))
+    (λ g.
+    let most = product-le (3 * r + 1 - d) (3 * r + 1 - d + 1) (3 * r + 1) (3 * r + 2) (omega arith) (omega arith) in
+    omega (arith, three-boxes r d g, most))
 
 -- a row's own tap is a byte
 pub own-small : (s : Shape) (r dy : ℕ) → r ≤ topOf s → ownTap s r dy < 256

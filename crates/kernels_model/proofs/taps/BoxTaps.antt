@@ -109,14 +109,16 @@ three-boxes r d h = rw (← mirrored) (by-lt d r inner outer)
     mirrored : box l (box l (box l one)) (3 * r - d) ≡ boxTap 3 r d
     mirrored = let e : dist (3 * r - d) (3 * r) ≡ d = omega arith in taps-dist 3 r (3 * r - d) ∙ ap (boxTap 3 r) e
 
-    inner : d < r → 2 * box l (box l (box l one)) (3 * r - d) + 3 * ((r - d) * (r - d + 1)) ≡ (3 * r + 1 - d) * (3 * r + 1 - d + 1)
+    inner : d < r
+        → 2 * box l (box l (box l one)) (3 * r - d) + 3 * ((r - d) * (r - d + 1)) ≡ (3 * r + 1 - d) * (3 * r + 1 - d + 1)
     inner g =
         let i : 3 * r - d ≡ l + (r - suc d) = omega arith in
         let m : r - d ≡ suc (r - suc d) = omega arith in
         let e : 3 * r + 1 - d ≡ suc (l + (r - suc d)) = omega arith in
         rw (i, m, e) (three-later l (r - suc d) (omega arith))
 
-    outer : r ≤ d → 2 * box l (box l (box l one)) (3 * r - d) + 3 * ((r - d) * (r - d + 1)) ≡ (3 * r + 1 - d) * (3 * r + 1 - d + 1)
+    outer : r ≤ d
+        → 2 * box l (box l (box l one)) (3 * r - d) + 3 * ((r - d) * (r - d + 1)) ≡ (3 * r + 1 - d) * (3 * r + 1 - d + 1)
     outer g =
         let m : r - d ≡ 0 = omega arith in
         let e : 3 * r + 1 - d ≡ suc (3 * r - d) = omega arith in

@@ -75,7 +75,8 @@ edge-sum g (suc r) =
     last : suc r - dist (suc (2 * r + 1)) (suc r) ≡ 0
     last = omega arith
 
--- the taps of the first m columns, if the half heights go up from the edge's by a slope each over rise columns, and then are level
+-- the taps of the first m columns, if the half heights go up from the edge's by a slope each over rise columns, and then are
+-- level
 rise-sum : (edge slope rise m : ℕ)
     → sum (λ x. 2 * (edge + slope * min rise x) + 1) m + slope * (min rise m + min rise m * min rise m)
     ≡ m * (2 * edge + 1) + 2 * (slope * (min rise m * m))

@@ -8,7 +8,9 @@ use borrow.Author.Tests.{lt-ltb, le-ltb}
 use Rattle.kernels_model.specs.Fixed.{radii, shapeCount, accepted, shapeRefused}
 use Rattle.kernels_model.specs.Facts.{ShapeFact, UnderFact, CountsFew}
 use Rattle.kernels_model.specs.NumberAndValue.{NumberAndValue, numberAndValue}
-use Rattle.kernels_model.specs.Shape.{Shape, Box, Tent, Triple, Diamond, Hexagon, Octagon, ShapeRead, Known, Unknown, numberOf, boxesOf, topOf, shapes, shapeOf, shapeAnswer, shapeAnswerFor, reachOf, topUnder}
+use Rattle.kernels_model.specs.Shape.{Shape, Box, Tent, Triple, Diamond, Hexagon, Octagon, ShapeRead, Known, Unknown}
+use Rattle.kernels_model.specs.Shape.{numberOf, boxesOf, topOf, shapes, shapeOf, shapeAnswer, shapeAnswerFor, reachOf}
+use Rattle.kernels_model.specs.Shape.{topUnder}
 use Rattle.kernels_model.proofs.numbers.Choices.{by-lt}
 
 pub number-le : (s : Shape) → numberOf s ≤ shapeCount - 1

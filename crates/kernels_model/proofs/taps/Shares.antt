@@ -12,7 +12,8 @@ use Rattle.kernels_model.specs.Choice.{within}
 use Rattle.kernels_model.specs.Shape.{Shape, ShapeRead, Known, Unknown, numberOf, shapeOf, topOf}
 use Rattle.kernels_model.specs.Tap.{shareFor, restFor, share, rest}
 use Rattle.kernels_model.specs.Facts.{TableFact}
-use Rattle.kernels_model.specs.Share.{Share, shareUpTo, restUpTo, shareFrom, shareParts, partsOf, partsAt, shareTable, tablePlace, tableShare}
+use Rattle.kernels_model.specs.Share.{Share, shareUpTo, restUpTo, shareFrom, shareParts, partsOf, partsAt, shareTable}
+use Rattle.kernels_model.specs.Share.{tablePlace, tableShare}
 use Rattle.kernels_model.proofs.numbers.Choices.{by-lt, within-yes, within-no}
 use Rattle.kernels_model.proofs.taps.Areas.{countedArea, area-counted}
 use Rattle.kernels_model.proofs.taps.ShapeNumbers.{number-le, number-back, top-small}

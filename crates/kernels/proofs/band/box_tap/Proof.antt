@@ -1,4 +1,5 @@
--- `band::box_tap` meets its contract: past the boxes' reach there is no tap, and up to it each number of boxes has its closed form.
+-- `band::box_tap` meets its contract: past the boxes' reach there is no tap, and up to it each number of boxes has its closed
+-- form.
 use mathlib.Core.Path.{_≡_, sym, _∙_}
 use Prim.Native.Nat.{ℕ, _+_, _*_, _-_, _≤_, _<_}
 use native.Mathlib.Omega.{arith}

@@ -1,4 +1,5 @@
--- The quotient, or one more where the rest is a half or more, is the nearest; and a quotient that is raised is no more than half of `a`.
+-- The quotient, or one more where the rest is a half or more, is the nearest; and a quotient that is raised is no more than half
+-- of `a`.
 use mathlib.Core.Path.{sym}
 use Prim.Native.Nat.{_≤_}
 use native.Mathlib.Omega.{arith}

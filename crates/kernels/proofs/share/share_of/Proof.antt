@@ -1,4 +1,5 @@
--- `share::share_of` meets its contract: `top` tells a radius above the top, and any other has the quotient by its area, and the rest.
+-- `share::share_of` meets its contract: `top` tells a radius above the top, and any other has the quotient by its area, and the
+-- rest.
 use mathlib.Core.Path.{sym}
 use native.Mathlib.Omega.{arith}
 use native.Mathlib.Nat.{mod-eq-sub-div-mul}
