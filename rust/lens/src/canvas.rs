@@ -75,6 +75,38 @@ impl Canvas {
         &self.pictures
     }
 
+    /// The light of each pixel of the image, row by row, before rounding: exact whole numbers.
+    /// With [`Canvas::matte_sums`] these are what [`Canvas::pictures`] are rounded from: a
+    /// value is light / matte, and a matte is its sum / [`Totals::WHOLE`].
+    ///
+    /// ```
+    /// use lens::{Pixel, Plate, Refusal, Shape, Totals};
+    ///
+    /// let mut canvas = Plate::builder(2, 1).reach(1).undo_steps(2).open()?.paint()?;
+    /// let sharp = Pixel { value: 100, opacity: 255, shape: Shape::Box, radius: 0 };
+    /// let spread = Pixel { value: 40, radius: 1, ..sharp };
+    /// canvas.put(0, 0, sharp)?;
+    /// canvas.put(1, 0, spread)?;
+    ///
+    /// // A ninth of the whole goes to each of nine pixels, and what is left over to the middle.
+    /// let (ninth, rest) = (Totals::WHOLE / 9, Totals::WHOLE % 9);
+    /// assert_eq!(canvas.matte_sums(), [255 * (Totals::WHOLE + ninth), 255 * (ninth + rest)]);
+    /// assert_eq!(canvas.light_sums()[1], 40 * canvas.matte_sums()[1]);
+    /// assert_eq!(canvas.pictures().mattes, [255, 28]);
+    /// assert_eq!(canvas.pictures().values, [94, 40]);
+    /// # Ok::<(), Refusal>(())
+    /// ```
+    pub fn light_sums(&self) -> &[u64] {
+        &self.sums[..self.pictures.values.len()]
+    }
+
+    /// The matte of each pixel of the image, row by row, before rounding, in steps of
+    /// 1 / [`Totals::WHOLE`] of an opacity. Where kernels overlap it may be above 255 times
+    /// that, which the picture shows as 255.
+    pub fn matte_sums(&self) -> &[u64] {
+        &self.sums[self.pictures.values.len()..]
+    }
+
     /// The plate as it is now, to be read: its sizes, its pixels and its undo count.
     pub fn plate(&self) -> &Plate {
         &self.plate
