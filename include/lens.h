@@ -2,8 +2,8 @@
  *
  * The engine is proved (docs/PROOF.md). It allocates nothing and keeps nothing: the caller
  * lends every buffer and carries the state from one call to the next. Any state, any
- * arguments and any contents of the buffers are safe. A call that does not like what it is
- * given answers with a number and changes nothing.
+ * arguments and any contents of the buffers are safe. A call that refuses what it is given
+ * answers with a number and changes nothing.
  *
  * What the caller owes:
  *
@@ -46,9 +46,21 @@
  *     reaches     r        2 r       3 r         r            r            r
  *     marks       8        13        20          12           16           16
  *
+ * The value is not multiplied by the opacity. Light adds up linearly: values in proportion
+ * to light blur as they do in a lens; log or display codes are averaged as codes, which
+ * makes blurred highlights dimmer.
+ *
  * Every kernel adds up to the whole exactly: what rounding the share of a tap down loses
- * goes to its centre. So a flat layer keeps its value and its opacity to the code value;
- * only nearer to the border than its kernel reaches does the matte fall off.
+ * goes to its centre. So a flat layer, one pixel everywhere, keeps its value and its opacity
+ * to the code value where the opacity is not 0; with opacity 0 both pictures are 0. Only
+ * nearer to the border than its kernel reaches does the matte fall off.
+ *
+ * A layer of opacity 255 whose radii differ has no flat matte: kernels of different radii
+ * overlap in some cells, and others get too little. Octagons of radius 0 to 16, one more
+ * every 8 columns, have matte sums of 0.80 to 1.20 times LENS_WHOLE x 255, so mattes of 204
+ * to 255, which is the most a matte can be; at an edge from radius 0 to 64, 0.505 to 1.495
+ * times, 129 to 255. The value is an average and stays right. For an opaque layer use it with
+ * a matte of your own; lens_show_kept gives the sums.
  */
 #ifndef LENS_H
 #define LENS_H
@@ -159,7 +171,8 @@ lens_answer lens_undo(lens_state state,
  *     at infinity  500 x opening x focal / (pitch x (focus - focal))
  *
  * to the nearest, a half upwards; one too great is made the greatest that shape and R allow.
- * Clears the log. Refuses 1 to 3, 5, 6, 11, 12, 17. */
+ * Every value and every depth is looked at, those of pixels of opacity 0 too: 5, 12 and 17 can
+ * come from them. Clears the log. Refuses 1 to 3, 5, 6, 11, 12, 17. */
 lens_answer lens_fill(lens_state state, lens_lens lens, uint8_t shape,
                       const uint16_t *values, size_t values_len,
                       const uint8_t *opacities, size_t opacities_len,
@@ -198,8 +211,10 @@ lens_totals lens_total(lens_state state,
  * are those of a full show after it. Open, lens_put, lens_undo and lens_fill do not mend:
  * after them show anew. */
 
-/* lens_show that also writes the finished sums that the pictures are rounded from,
- * whatever sums held. Refuses 1, 2. */
+/* lens_show that also writes the finished sums that the pictures are rounded from, whatever
+ * sums held: exact whole numbers, by place all light, then all matte. A value is
+ * light / matte, a matte its sum / LENS_WHOLE; the sum is not held to 255 x LENS_WHOLE.
+ * Refuses 1, 2. */
 lens_answer lens_show_kept(lens_state state,
                            const uint64_t *planes, size_t planes_len,
                            uint64_t *scratch, size_t scratch_len,

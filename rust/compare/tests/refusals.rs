@@ -1,4 +1,4 @@
-//! The same refusals at every door: the reference's numbers, the names of `include/lens.h`, the
+//! The same refusals in every interface: the reference's numbers, the names of `include/lens.h`, the
 //! Rust crate's and the table of README.md.
 #![cfg(feature = "proved")]
 

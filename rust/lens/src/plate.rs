@@ -9,9 +9,14 @@ use crate::refusal::Refusal;
 use crate::shape::Shape;
 
 /// A whole layer, each part with a cell for every pixel of the plate, row by row.
+///
+/// A fill looks at every value and every depth, those of pixels of opacity 0 too, and refuses
+/// one that is not lawful; 0 for both always is.
 #[derive(Clone, Copy, Debug)]
 pub struct Layer<'a> {
-    /// 0 to 4,095 ([`Pixel::MAX_VALUE`]).
+    /// 0 to 4,095 ([`Pixel::MAX_VALUE`]), not multiplied by the opacity. Light adds up
+    /// linearly: values in proportion to light blur as they do in a lens; log or display codes
+    /// are averaged as codes, which makes blurred highlights dimmer.
     pub values: &'a [u16],
     /// 0 none to 255 all.
     pub opacities: &'a [u8],
@@ -32,8 +37,10 @@ pub struct Pictures {
     /// multiplied by the matte. It is 0 where no pixel adds to the matte; where they add too
     /// little for a matte of 1, the value still stands.
     pub values: Vec<u16>,
-    /// How much of the layer is there, 0 none to 255 all. Kernels that overlap may add up to
-    /// more; it is shown as 255.
+    /// How much of the layer is there, 0 none to 255 all. Where radii differ, kernels overlap
+    /// in some cells and others get too little, so a layer of opacity 255 has a flat matte only
+    /// where its radius is the same: a sum above 255 is shown as 255, one below as it is. The
+    /// value is right in both. [`Canvas::matte_sums`](crate::Canvas::matte_sums) has the sums.
     pub mattes: Vec<u8>,
 }
 
@@ -388,6 +395,30 @@ mod tests {
             assert_eq!(fill(8, depth), (Err(Refusal::DepthInside), vec![7; 2]));
         }
         assert_eq!(fill(8, 501), (Ok(()), vec![8; 2]));
+    }
+
+    #[test]
+    fn a_pixel_of_opacity_0_is_looked_at_like_any_other() {
+        let mut plate = open(2, 1, 3, 0);
+        let mut fill = |value: u16, depth: u32| {
+            let (values, depths) = ([7, value], [20_000, depth]);
+            let layer = Layer { values: &values, opacities: &[255, 0], depths: &depths };
+            plate.fill(LENS, Shape::Box, layer)
+        };
+        assert_eq!(fill(Pixel::MAX_VALUE + 1, 0), Err(Refusal::Value));
+        assert_eq!(fill(0, Layer::MAX_DEPTH + 1), Err(Refusal::Depth));
+        assert_eq!(fill(0, LENS.focal), Err(Refusal::DepthInside));
+        assert_eq!(fill(0, 0), Ok(()));
+        assert_eq!(plate.show().unwrap().values, [7, 0]);
+    }
+
+    #[test]
+    fn a_flat_layer_of_opacity_0_shows_nothing() {
+        let mut plate = open(3, 3, 1, 0);
+        let layer = Layer { values: &[7; 9], opacities: &[0; 9], depths: &[0; 9] };
+        plate.fill(LENS, Shape::Box, layer).unwrap();
+        let shown = plate.show().unwrap();
+        assert_eq!((shown.values, shown.mattes), (vec![0; 9], vec![0; 9]));
     }
 
     #[test]

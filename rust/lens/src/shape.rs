@@ -8,9 +8,9 @@ use crate::refusal::Refusal;
 /// from the kernel's middle, and t is r / 2 rounded down. A kernel covers r pixels to each
 /// side, a tent 2 r, a triple 3 r; one of radius 0 is its middle alone.
 ///
-/// Every kernel adds up to the whole exactly, so a flat layer keeps its value and its
-/// opacity to the code value; only nearer to the border than its kernel covers does the
-/// matte fall off.
+/// Every kernel adds up to the whole exactly, so a flat layer, one pixel everywhere, keeps its
+/// value and its opacity to the code value where the opacity is not 0; with opacity 0 both
+/// pictures are 0. Only nearer to the border than its kernel covers does the matte fall off.
 #[derive(Clone, Copy, Debug, PartialEq, Eq, Hash)]
 #[repr(u8)]
 pub enum Shape {
