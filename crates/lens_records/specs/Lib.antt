@@ -1,2 +1,2 @@
--- What only contracts inside this crate use: no statement about a public call needs it.
+-- What the contracts of this program use, which say what is proved of it; it has no public function.
 pub mod Feeding

@@ -18,7 +18,7 @@ abbrev pub canvasOf : Size → List ℕ → Canvas
 canvasOf z planes = canvas (sumsOf z planes) (valuesOf z planes) (mattesOf z planes)
 
 -- "For kept sums and pictures that are those of the plate before the call, the mended ones equal a full show of the plate after
--- it": on any plate at all, and so for a refused call too. "Opacity .. come as bytes."
+-- it": on any plate at all; a refused call changes neither planes nor canvas, so it holds of it too. "Opacity .. come as bytes."
 pub record StaysFresh : Type 0 where
   pub by-put : (s : State) (a : Ask) (l : Lent) → a .opacity < 256 →
       let after = putKeptCall s a l (canvasOf (s .size) (l .planes)) in

@@ -1,4 +1,4 @@
--- What only contracts inside this crate use: no statement about a public call needs it.
+-- What contracts inside this crate use; no contract of a public function and no statement of a model cites it.
 pub mod Written
 pub mod Room
 pub mod Done
