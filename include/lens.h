@@ -11,10 +11,10 @@
  *              for the plate is refused (2); one that is longer than the buffer is not safe,
  *              and nothing here can notice. A buffer of length 0 may be NULL.
  *   Overlap    Buffers of one call do not overlap.
- *   Threads    The engine has no state of its own, so calls on different plates may run at
- *              once. On one plate they come one after the other; only shows and totals, which
- *              read the planes and write what they are lent besides, may run at once, each
- *              with a scratch, pictures and sums of its own.
+ *   Threads    The engine has no state of its own, so calls on different plates that share no
+ *              buffer may run at once. On one plate they come one after the other; only shows
+ *              and totals, which read the planes and write what they are lent besides, may run
+ *              at once, each with a scratch, pictures and sums of its own.
  *   Together   Planes, pixels, log and state belong together and change through the calls
  *              alone. Before it changes anything, a put looks at the one stored pixel at its
  *              place, and an undo at the last entry of the log and the pixel at its place; if
