@@ -11,6 +11,11 @@ pub record TableRow (F : Type 0) : Type 1 where
 abbrev pub row : {F : Type 0} → F → Type 0 → TableRow F
 row f given = record { refusal = f; given = given }
 
+-- none of them applies
+unfoldable pub NoneOf : {F : Type 0} → List (TableRow F) → Type 0
+NoneOf [] = Unit {0}
+NoneOf (r ∷ rows) = (¬ (r .given)) × NoneOf rows
+
 -- "The lowest number that applies is given": of the rows, in the order in which the call checks them, the call says the refusal
 -- of the first that applies, and where none does it is accepted
 unfoldable pub FirstOf : {F : Type 0} → (F → Type 0) → Type 0 → List (TableRow F) → Type 0

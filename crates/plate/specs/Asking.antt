@@ -6,7 +6,7 @@ use Rattle.plate_model.specs.declared.lent.Ask.{Ask}
 use Rattle.plate_model.specs.declared.lent.LentLengths.{LentLengths}
 use Rattle.plate_model.specs.declared.word.Pixel.{Pixel}
 use Rattle.plate_model.specs.Refusal.{putCheck}
-use Rattle.plate_model.specs.Change.{askedPixel}
+use Rattle.plate_model.specs.Asked.{askedPixel}
 pub use Rattle.plate.specs.declared.check.PixelRead.{PixelRead}
 pub use Rattle.plate.specs.declared.check.PixelRead.the-variants.{Asked, NotAsked}
 

@@ -17,8 +17,7 @@ use Rattle.plate_model.specs.Lent.{Canvas}
 use Rattle.plate_model.specs.declared.word.Pixel.{Pixel}
 use Rattle.plate_model.specs.declared.change.Change.{Change}
 use Rattle.plate_model.specs.Kept.{inReach, keptLight, keptMatte, mendedLight, mendedMatte}
-use Rattle.plate_model.specs.Table.{LawfulSize}
-use Rattle.plate_model.specs.Word.{Fits}
+use Rattle.plate_model.specs.Ready.{LawfulChange}
 use Rattle.plate.specs.Laying.{Amounts}
 use Rattle.plate.specs.Passes.{Written}
 pub use Rattle.plate.specs.declared.mend.Given.{Given}
@@ -93,12 +92,7 @@ pub record RunGiven (n start : ℕ) (s : ColumnRange) (by : Amounts) (old new : 
 -- CELLS OF THE IMAGE
 -- a change of a lawful plate, and sums and pictures of its lengths
 pub record MendReady (z : Size) (c : Change) (k : Canvas) : Type 0 where
-  pub lawful : LawfulSize z
-  pub place-is : c .place ≡ c .y * z .width + c .x
-  pub column-in : c .x < z .width
-  pub row-in : c .y < z .height
-  pub old-fits : Fits (z .reach) (c .old)
-  pub new-fits : Fits (z .reach) (c .new)
+  pub change : LawfulChange z c
   pub sums-are : length (k .sums) ≡ sumsInAll z
   pub values-are : length (k .values) ≡ places z
   pub mattes-are : length (k .mattes) ≡ places z

@@ -19,7 +19,7 @@ ghost use mathlib.Core.Path.{_≡_};
 ghost use Rattle.plate_model.specs.declared.state.Outcome.the-variants.{Accepted};
 ghost use Rattle.plate_model.specs.Refusal.{sizesCheck, lentCheck, plateCheck, askCheck, inputsCheck, openCheck, undoCheck, totalCheck, showCheck, showKeptCheck, keptCheck};
 ghost use Rattle.plate_model.specs.Table.{LawfulSize};
-ghost use Rattle.plate_model.specs.Change.{askedPixel};
+ghost use Rattle.plate_model.specs.Asked.{askedPixel};
 ghost use Rattle.plate.specs.Asking.{pixelBy, pixelRead};
 ghost use Rattle.plate.specs.Filling.{fillLengths};
 

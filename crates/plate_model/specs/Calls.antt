@@ -1,21 +1,21 @@
 -- The calls: what each answers, and what it leaves in every list that it is lent, for every input.
-use mathlib.Core.List.{List, [], _∷_, map}
-use Prim.Native.Nat.{ℕ, zero, suc, _+_, _-_, _%_, _^_, min}
-use lib.ListN.{getD, set, length, replicate}
+use mathlib.Core.List.{List, map}
+use Prim.Native.Nat.{ℕ, suc, _+_, _-_, _%_, _^_}
+use lib.ListN.{getD, set, length}
 use Rattle.kernels_model.specs.Fixed.{planesEach}
 use Rattle.kernels_model.specs.Choice.{within}
 use Rattle.kernels_model.specs.Sum.{Planes, finish}
-use Rattle.kernels_model.specs.declared.shape.Shape.{Shape}
-use Rattle.kernels_model.specs.Shape.{shapeOf, topUnder}
+use Rattle.kernels_model.specs.Shape.{shapeOf}
 use Rattle.kernels_model.specs.declared.lens.Lens.{Lens}
-use Rattle.kernels_model.specs.Lens.{blur}
 use Rattle.kernels_model.specs.Rounding.{shownValue, shownMatte}
 use Rattle.plate_model.specs.Layout.{Size, sizeFrom, wide, high, cell, places, columnOf, rowOf}
 use Rattle.plate_model.specs.Lent.{State, stateOf, Lent, lent, lengthsOf, Ask, Inputs, Views, views}
-use Rattle.plate_model.specs.Word.{Pixel, wordOf, loggedAs}
+use Rattle.plate_model.specs.Word.{wordOf, loggedAs}
 use Rattle.plate_model.specs.Kernel.{markCount}
 use Rattle.plate_model.specs.Refusal.{Answer, Returned, returned, Refusal, Outcome, Accepted, Refused, openCheck, fillCheck, showCheck}
-use Rattle.plate_model.specs.Change.{Change, ChangeRead, ToChange, NoChange, knownShape, putRead, undoRead}
+use Rattle.plate_model.specs.Asked.{knownShape, filled}
+use Rattle.plate_model.specs.Change.{Change, ChangeRead, ToChange, NoChange, putRead, undoRead}
+use Rattle.plate_model.specs.Listed.{zeros, listTo}
 use Rattle.plate_model.specs.Marks.{exchanged, layGrid}
 
 -- what a call returns, in the paper's numbers, and what it leaves of planes, pixels and log
@@ -35,14 +35,6 @@ answerOf o n s = record { outcome = o; marks = n; state = s }
 -- "A refusal returns its number and mark count 0, the state is handed back unchanged .., every buffer untouched."
 abbrev pub refused : Refusal → State → Lent → Left
 refused f s l = leaves (answerOf (Refused f) 0 s) l
-
-abbrev pub zeros : ℕ → List ℕ
-zeros n = replicate n 0
-
--- f 0, .., f (n - 1)
-unfoldable pub listTo : {A : Type 0} → (ℕ → A) → ℕ → List A
-listTo f zero = []
-listTo f (suc n) = f 0 ∷ listTo (λ k. f (suc k)) n
 
 -- OPEN
 unfoldable pub openBy : Outcome → Size → Lent → Left
@@ -83,16 +75,6 @@ unfoldable pub undoCall : State → Lent → Left
 undoCall s l = undoBy (undoRead s (lengthsOf l) (l .pixels) (l .log)) s l
 
 -- FILL
--- "every pixel gets its value, its opacity, the one shape and the radius from its depth", "then at most the shape's top under R"
-unfoldable pub filled : Size → Lens → Shape → Inputs → ℕ → Pixel
-filled z l s f i =
-    record {
-      value = getD (f .values) i 0;
-      opacity = getD (f .opacities) i 0;
-      shape = s;
-      radius = min (topUnder s (z .reach)) (blur l (getD (f .depths) i 0));
-    }
-
 -- "Fill .. replaces everything and sets every log entry and the log count to 0."
 unfoldable pub fillBy : Outcome → State → Lens → ℕ → Inputs → Lent → Left
 fillBy (Refused g) s o n f l = refused g s l

@@ -1,31 +1,18 @@
 -- What a put or an undo is to change, as it reads it before it touches anything: a place, the pixel that stands there and the one
 -- that is to come; or the refusal.
 use mathlib.Core.List.{List}
-use Prim.Native.Nat.{ℕ, _+_, _*_, _-_, _/_, _%_}
+use Prim.Native.Nat.{ℕ, _-_, _/_, _%_}
 use lib.ListN.{getD}
-use Rattle.kernels_model.specs.declared.shape.Shape.{Shape}
-use Rattle.kernels_model.specs.declared.shape.ShapeRead.{ShapeRead}
-use Rattle.kernels_model.specs.declared.shape.ShapeRead.the-variants.{Known, Unknown}
-use Rattle.plate_model.specs.Layout.{Size, placeAt}
+use Rattle.plate_model.specs.Layout.{Size}
 use Rattle.plate_model.specs.Lent.{State, Ask, LentLengths}
-use Rattle.plate_model.specs.Word.{Pixel, empty, Unpacked, Whole, Broken, readWord, Entry, EntryRead, Logged, Unreadable, readEntry}
+use Rattle.plate_model.specs.Word.{Unpacked, Whole, Broken, readWord, Entry, EntryRead, Logged, Unreadable, readEntry}
+use Rattle.plate_model.specs.Asked.{askedPlace, askedPixel}
 use Rattle.plate_model.specs.Refusal.{StoredWord, Outcome, Accepted, Refused, putCheck, undoCheck}
 pub use Rattle.plate_model.specs.declared.change.Change.{Change}
 pub use Rattle.plate_model.specs.declared.change.ChangeRead.{ChangeRead}
 pub use Rattle.plate_model.specs.declared.change.ChangeRead.the-variants.{ToChange, NoChange}
 
 -- PUT
-abbrev pub askedPlace : Size → Ask → ℕ
-askedPlace z a = placeAt z (a .x) (a .y)
-
--- the pixel that an accepted put asks for; a put with no shape is never accepted
-abbrev pub knownShape : ShapeRead → Shape
-knownShape (Known s) = s
-knownShape Unknown = empty .shape
-
-abbrev pub askedPixel : Ask → Pixel
-askedPixel a = record { value = a .value; opacity = a .opacity; shape = knownShape (a .shape); radius = a .radius }
-
 unfoldable pub putOver : Unpacked → Size → Ask → ChangeRead
 putOver Broken z a = NoChange StoredWord
 putOver (Whole old) z a =

@@ -1,13 +1,9 @@
 -- How many marks the calls of a list report.
 use mathlib.Core.Path.{_≡_}
-use mathlib.Core.List.{List, [], _∷_}
 use Prim.Native.Nat.{_≤_}
-use Rattle.plate_model.specs.Layout.{Size}
-use Rattle.plate_model.specs.Lent.{Lent, lengthsOf}
-use Rattle.plate_model.specs.Refusal.{Accepted, openCheck}
-use Rattle.plate_model.specs.Calls.{openCall}
 use Rattle.plate_model.specs.Notebook.{Report}
-use Rattle.plate_model.specs.Lists.{Call, putIt, undoIt, fillIt, showIt, putKeptIt, undoKeptIt, showKeptIt, leftBy, plateReports}
+use Rattle.plate_model.specs.Lists.{Call, putIt, undoIt, fillIt, showIt, putKeptIt, undoKeptIt, showKeptIt}
+use Rattle.plate_model.specs.EachReport.{InLists}
 
 -- "a put or an undo reports 16 to 40", if it is accepted, and none if it is refused
 pub record Few (r : Report) : Type 0 where
@@ -24,15 +20,6 @@ CountOf (putKeptIt x y v a s r k) t = Few t
 CountOf (undoKeptIt k) t = Few t
 CountOf (showKeptIt v sums) t = t .marks ≡ 0
 
--- each call of a list has its report, with such a count
-unfoldable pub Counted : List Call → List Report → Type 0
-Counted [] [] = Unit
-Counted [] (r ∷ rs) = ⊥
-Counted (c ∷ cs) [] = ⊥
-Counted (c ∷ cs) (r ∷ rs) = CountOf c r × Counted cs rs
-
 -- in every list after an accepted open
 abbrev pub ListsCounted : Type 0
-ListsCounted =
-    (z : Size) (l : Lent) (calls : List Call) → openCheck z (lengthsOf l) ≡ Accepted
-    → Counted calls (plateReports (leftBy (openCall z l)) calls)
+ListsCounted = InLists (λ z c r. CountOf c r)

@@ -1,5 +1,5 @@
 -- Refresh under the brush: the second forms of show, put and undo, which keep the finished sums and mend them.
-use mathlib.Core.Bool.{Bool, true, not}
+use mathlib.Core.Bool.{Bool, not, _||_}
 use mathlib.Core.List.{List, _++_}
 use Prim.Native.Nat.{ℕ, _+_, _*_, _/_, _%_, _^_}
 use lib.Dec.{eqb}
@@ -15,7 +15,8 @@ use Rattle.plate_model.specs.Word.{Pixel}
 use Rattle.plate_model.specs.Kernel.{tapOf}
 use Rattle.plate_model.specs.Refusal.{Answer, Outcome, Accepted, Refused, keptCheck, showKeptCheck}
 use Rattle.plate_model.specs.Change.{Change, ChangeRead, ToChange, NoChange, putRead, undoRead}
-use Rattle.plate_model.specs.Calls.{Left, leaves, listTo, putBy, undoBy, sumAt, Shown, shows, showBy}
+use Rattle.plate_model.specs.Listed.{listTo}
+use Rattle.plate_model.specs.Calls.{Left, leaves, putBy, undoBy, sumAt, Shown, shows, showBy}
 use Rattle.plate_model.specs.Plain.{lightOf, matteOf, weightAt}
 
 -- CELLS IN REACH
@@ -23,9 +24,13 @@ use Rattle.plate_model.specs.Plain.{lightOf, matteOf, weightAt}
 abbrev pub tapAt : Size → Pixel → ℕ → ℕ → ℕ
 tapAt z p j i = tapOf p (dist (i % z .width) (j % z .width)) (dist (i / z .width) (j / z .width))
 
+-- whether that is "a tap other than 0"
+abbrev pub hasTap : Size → Pixel → ℕ → ℕ → Bool
+hasTap z p j i = not (eqb (tapAt z p j i) 0)
+
 -- "the cells where the old or the new kernel has a tap other than 0; those are the cells in reach"
 unfoldable pub inReach : Size → Change → ℕ → Bool
-inReach z c i = pick (eqb (tapAt z (c .old) (c .place) i) 0) (not (eqb (tapAt z (c .new) (c .place) i) 0)) true
+inReach z c i = hasTap z (c .old) (c .place) i || hasTap z (c .new) (c .place) i
 
 -- "The put and the undo also mend, in buffer and pictures, only the cells" in reach: cell by cell what is mended and what was kept
 unfoldable pub inReachOr : Size → Change → (ℕ → ℕ) → (ℕ → ℕ) → ℕ → ℕ

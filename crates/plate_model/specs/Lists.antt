@@ -9,7 +9,8 @@ use Rattle.plate_model.specs.Layout.{Size, padded}
 use Rattle.plate_model.specs.Word.{wordOf}
 use Rattle.plate_model.specs.Lent.{State, Lent, lengthsOf, ask, inputs, Views, Canvas}
 use Rattle.plate_model.specs.Refusal.{Accepted, openCheck, viewsCheck}
-use Rattle.plate_model.specs.Calls.{Left, Shown, shown, answerOf, zeros, openCall, putCall, undoCall, fillCall, showCall}
+use Rattle.plate_model.specs.Listed.{zeros}
+use Rattle.plate_model.specs.Calls.{Left, Shown, shown, answerOf, openCall, putCall, undoCall, fillCall, showCall}
 use Rattle.plate_model.specs.Kept.{putKeptCall, undoKeptCall, showKeptCall}
 use Rattle.plate_model.specs.Plain.{plainValues, plainMattes, gridCell}
 use Rattle.plate_model.specs.Notebook.{Book, openBook, both, Report, plain, BookLeft, bookPut, bookUndo, bookFill, bookShow, bookPutKept, bookUndoKept, bookShowKept, logOf}

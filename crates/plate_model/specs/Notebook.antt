@@ -9,8 +9,8 @@ use Rattle.plate_model.specs.Word.{Pixel, empty, Entry, entryOf}
 use Rattle.plate_model.specs.Kernel.{markCount}
 use Rattle.plate_model.specs.Refusal.{Outcome, Accepted, Refused, LogEmpty, outcomeNumber, askCheck, inputsCheck, layerCheck, viewsCheck, sumsCheck, canvasCheck}
 use Rattle.plate_model.specs.Lent.{Ask, Inputs, Views, Canvas}
-use Rattle.plate_model.specs.Change.{askedPlace, askedPixel, knownShape}
-use Rattle.plate_model.specs.Calls.{filled, listTo, zeros}
+use Rattle.plate_model.specs.Asked.{askedPlace, askedPixel, knownShape, filled}
+use Rattle.plate_model.specs.Listed.{listTo, zeros}
 use Rattle.plate_model.specs.Plain.{pixelAt, plainValues, plainMattes}
 
 -- room is the log's length; the top of the pile comes first

@@ -8,7 +8,7 @@ use Rattle.plate_model.specs.Lent.{State, Lent, lengthsOf, Ask, ask, Vie
 use Rattle.plate_model.specs.Refusal.{Accepted, openCheck}
 use Rattle.plate_model.specs.Calls.{openCall, valuesOf, mattesOf}
 use Rattle.plate_model.specs.Kept.{Refreshed, putKeptCall, undoKeptCall, sumsOf, ShownKept, showKeptCall}
-use Rattle.plate_model.specs.Plain.{plainValues, plainMattes}
+use Rattle.plate_model.specs.Plain.{plainSums, plainValues, plainMattes}
 use Rattle.plate_model.specs.Notebook.{openBook}
 use Rattle.plate_model.specs.Lists.{Byte, Call, putIt, undoIt, Plate, leftBy, plateAfter, bookAfter}
 
@@ -83,7 +83,8 @@ abbrev pub firstForm : KeptCall → Call
 firstForm (keptPut x y v a s r) = putIt x y v a s r
 firstForm keptUndo = undoIt
 
--- so on a plate after any list of calls the kept pictures are plain spreading of the notebook's grid after the list and the changes
+-- so on a plate after any list of calls the kept sums are the plain sums of the notebook's grid after the list and the changes, with
+-- nothing wrapped, and the kept pictures its plain pictures
 abbrev pub PaintsPlain : Type 0
 PaintsPlain =
     (z : Size) (l : Lent) (calls : List Call) (v : Views) (sums : List ℕ) (changes : List KeptCall) → openCheck z (lengthsOf l) ≡ Accepted →
@@ -92,4 +93,4 @@ PaintsPlain =
     let end = paintAll (shownPainting p first) changes in
     let grid = bookAfter (openBook z (length (l .log))) (calls ++ map firstForm changes) .grid in
     first .call .answer .number ≡ 0
-    → (end .canvas .values ≡ plainValues z grid) × (end .canvas .mattes ≡ plainMattes z grid)
+    → end .canvas ≡ canvas (plainSums z grid) (plainValues z grid) (plainMattes z grid)

@@ -1,5 +1,5 @@
 -- The plain pictures of a grid, and its marks.
-use mathlib.Core.List.{List}
+use mathlib.Core.List.{List, _++_}
 use Prim.Native.Nat.{ℕ, _*_, _/_, _%_, _^_}
 use lib.ListN.{getD}
 use Rattle.kernels_model.specs.Sum.{sum, dist}
@@ -8,7 +8,7 @@ use Rattle.plate_model.specs.Layout.{Size, places}
 use Rattle.plate_model.specs.Word.{Pixel, empty}
 use Rattle.plate_model.specs.Kernel.{weightOf}
 use Rattle.plate_model.specs.Marks.{pixelMarks, onCell}
-use Rattle.plate_model.specs.Calls.{listTo}
+use Rattle.plate_model.specs.Listed.{listTo}
 
 abbrev pub pixelAt : List Pixel → ℕ → Pixel
 pixelAt grid i = getD grid i empty
@@ -27,6 +27,10 @@ weightAt z p j i = weightOf p (dist (i % z .width) (j % z .width)) (dist (i / z 
 -- "at each image cell, the matte and light sums of all that its pixels add there by their kernels"
 unfoldable pub plainSum : Size → List Pixel → (Pixel → ℕ) → ℕ → ℕ
 plainSum z grid worth i = sum (λ j. let p = pixelAt grid j in worth p * weightAt z p j i) (places z)
+
+-- those of every image cell, in the order of a buffer of sums: "all light ones by place, then all matte ones"
+unfoldable pub plainSums : Size → List Pixel → List ℕ
+plainSums z grid = listTo (plainSum z grid lightOf) (places z) ++ listTo (plainSum z grid matteOf) (places z)
 
 -- "rounded as above"
 unfoldable pub plainValues : Size → List Pixel → List ℕ

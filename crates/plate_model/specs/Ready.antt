@@ -9,15 +9,19 @@ use Rattle.plate_model.specs.Word.{Fits}
 use Rattle.plate_model.specs.Change.{Change, ToChange, putRead, undoRead}
 use Rattle.plate_model.specs.Table.{LawfulSize}
 
--- a change of a lawful plate whose planes have n cells in all: a place of it, and two of its pixels
-pub record Changeable (z : Size) (c : Change) (n : ℕ) : Type 0 where
+-- a change of a lawful plate: a place of it, and two of its pixels
+pub record LawfulChange (z : Size) (c : Change) : Type 0 where
   pub lawful : LawfulSize z
-  pub planes-are : n ≡ planesInAll * padded z
   pub place-is : c .place ≡ c .y * z .width + c .x
   pub column-in : c .x < z .width
   pub row-in : c .y < z .height
   pub old-fits : Fits (z .reach) (c .old)
   pub new-fits : Fits (z .reach) (c .new)
+
+-- and its planes have n cells in all
+pub record Changeable (z : Size) (c : Change) (n : ℕ) : Type 0 where
+  pub change : LawfulChange z c
+  pub planes-are : n ≡ planesInAll * padded z
 
 -- PUT
 -- the place has a word, which an entry can keep, and the log has room for one

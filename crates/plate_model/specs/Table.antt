@@ -53,13 +53,14 @@ LentWrong z n = ¬ (LentFor z n)
 unfoldable pub InputsWrong : Size → Inputs → Type 0
 InputsWrong z f = (length (f .values) ≢ places z) ⊎ (length (f .opacities) ≢ places z) ⊎ (length (f .depths) ≢ places z)
 
--- what a show is lent: planes, "scratch 3 × P; the two pictures .. W × H each"
+-- what a show writes to: "scratch 3 × P; the two pictures .. W × H each"
+abbrev pub SeenWrong : Size → Views → Type 0
+SeenWrong z v =
+    (length (v .scratch) ≢ scratchPlanes * padded z) ⊎ (length (v .values) ≢ places z) ⊎ (length (v .mattes) ≢ places z)
+
+-- and what it is lent in all, with the planes
 unfoldable pub ViewsWrong : Size → List ℕ → Views → Type 0
-ViewsWrong z planes v =
-    (length planes ≢ planesInAll * padded z)
-    ⊎ (length (v .scratch) ≢ scratchPlanes * padded z)
-    ⊎ (length (v .values) ≢ places z)
-    ⊎ (length (v .mattes) ≢ places z)
+ViewsWrong z planes v = (length planes ≢ planesInAll * padded z) ⊎ SeenWrong z v
 
 -- what a total is lent: planes and scratch
 unfoldable pub TotalWrong : Size → List ℕ → List ℕ → Type 0

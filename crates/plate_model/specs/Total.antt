@@ -7,7 +7,8 @@ use Rattle.kernels_model.specs.Sum.{sum, finish}
 use Rattle.plate_model.specs.Layout.{Size, wide, high}
 use Rattle.plate_model.specs.Lent.{State}
 use Rattle.plate_model.specs.Refusal.{Answer, Returned, returned, Outcome, Accepted, Refused, totalCheck}
-use Rattle.plate_model.specs.Calls.{answerOf, zeros, stored}
+use Rattle.plate_model.specs.Listed.{zeros}
+use Rattle.plate_model.specs.Calls.{answerOf, stored}
 pub use Rattle.plate_model.specs.declared.total.Totals.{Totals}
 
 -- "the sums of finished matte and of finished light over all padded cells, wrapped": light's from plane 0 on, matte's from the

@@ -18,7 +18,8 @@ use Rattle.plate_model.specs.declared.state.Outcome.the-variants.{Accepted, Ref
 use Rattle.plate_model.specs.Refusal.{refusalNumber, outcomeNumber}
 use Rattle.plate_model.specs.declared.lent.Ask.{Ask}
 use Rattle.plate_model.specs.Lent.{Lent, lent, Views, views, Borrowed}
-use Rattle.plate_model.specs.Calls.{Left, openCall, putCall, undoCall, showCall, zeros}
+use Rattle.plate_model.specs.Listed.{zeros}
+use Rattle.plate_model.specs.Calls.{Left, openCall, putCall, undoCall, showCall}
 use Rattle.plate_model.specs.Lists.{Byte, codes}
 use Rattle.records_model.specs.Fixed.{cellsTop, planesRoom, scratchRoom, logRoom, longestBody, fullFrom}
 use Rattle.records_model.specs.Text.{doneLine, showText, withText}

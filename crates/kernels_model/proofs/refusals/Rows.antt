@@ -2,12 +2,7 @@
 -- on with further rows where these accept.
 use mathlib.Core.Logic.{inl, inr}
 use mathlib.Core.List.{List, [], _∷_, _++_}
-use Rattle.kernels_model.specs.Rows.{TableRow, FirstOf}
-
--- none of them applies
-unfoldable pub NoneOf : {F : Type 0} → List (TableRow F) → Type 0
-NoneOf [] = Unit {0}
-NoneOf (r ∷ rows) = (¬ (r .given)) × NoneOf rows
+use Rattle.kernels_model.specs.Rows.{TableRow, NoneOf, FirstOf}
 
 module _ {F : Type 0} (says : F → Type 0) (accepted : Type 0) where
   -- accepted exactly where none applies

@@ -8,7 +8,8 @@ use Rattle.plate_model.specs.Layout.{places}
 use Rattle.plate_model.specs.Lent.{State, Ask, Lent, lengthsOf}
 use Rattle.plate_model.specs.Word.{Unpacked, Whole, Broken, readWord, Entry, EntryRead, Logged, Unreadable, readEntry}
 use Rattle.plate_model.specs.Refusal.{Refusal, Outcome, Accepted, Refused, putCheck, undoCheck}
-use Rattle.plate_model.specs.Change.{askedPlace, askedPixel, Change, ToChange, NoChange, putOver, putReadBy, putRead, undoOver, undoEntry, undoReadBy, undoRead}
+use Rattle.plate_model.specs.Asked.{askedPlace, askedPixel}
+use Rattle.plate_model.specs.Change.{Change, ToChange, NoChange, putOver, putReadBy, putRead, undoOver, undoEntry, undoReadBy, undoRead}
 use Rattle.plate_model.specs.Word.{Fits}
 use Rattle.plate_model.specs.Ready.{PutReady, PutReads, UndoReady, UndoReads}
 use Rattle.plate_model.proofs.numbers.Extents.{row-of}
@@ -34,13 +35,15 @@ module _ (s : State) (a : Ask) (l : Lent) (byte : a .opacity < 256) (c : Change)
       rw (← made)
       (record {
         changeable = record {
-          lawful = plate .lawful;
+          change = record {
+            lawful = plate .lawful;
+            place-is = refl;
+            column-in = asked .place-x;
+            row-in = asked .place-y;
+            old-fits = fits;
+            new-fits = asked-fits z (s .count) (length (l .log)) a asked byte;
+          };
           planes-are = plate .lent .planes-are;
-          place-is = refl;
-          column-in = asked .place-x;
-          row-in = asked .place-y;
-          old-fits = fits;
-          new-fits = asked-fits z (s .count) (length (l .log)) a asked byte;
         };
         place-in = omega (arith, asked .place-in, plate .lent .pixels-are);
         place-small = omega (arith, asked .place-in, plate .lawful .places-top);
@@ -74,13 +77,15 @@ module _ (s : State) (l : Lent) (c : Change) (plate : PlateAccepted s (lengthsOf
       rw (← made)
       (record {
         changeable = record {
-          lawful = plate .lawful;
+          change = record {
+            lawful = plate .lawful;
+            place-is = sym (div-add-mod' i (z .width));
+            column-in = mod-lt i wide;
+            row-in = row-of i (z .width) (z .height) wide inside;
+            old-fits = read-fits (z .reach) _ old w;
+            new-fits = fits;
+          };
           planes-are = plate .lent .planes-are;
-          place-is = sym (div-add-mod' i (z .width));
-          column-in = mod-lt i wide;
-          row-in = row-of i (z .width) (z .height) wide inside;
-          old-fits = read-fits (z .reach) _ old w;
-          new-fits = fits;
         };
         place-in = omega (arith, plate .lent .pixels-are);
         count-some = some;

@@ -11,7 +11,7 @@ use Rattle.kernels_model.specs.Fixed.{valueTop, depthTop}
 use Rattle.plate_model.specs.Layout.{Size, places}
 use Rattle.plate_model.specs.Lent.{State, LentLengths, Ask, Inputs}
 use Rattle.plate_model.specs.Refusal.{Outcome, Accepted, Value, Depth, sizesCheck, lentCheck, askCheck, layerCheck, plateCheck, emptyCheck}
-use Rattle.plate_model.specs.Change.{askedPlace, knownShape, askedPixel}
+use Rattle.plate_model.specs.Asked.{askedPlace, knownShape, askedPixel}
 use Rattle.plate_model.specs.Table.{LawfulSize, LentFor}
 use Rattle.plate_model.specs.Word.{Fits}
 use Rattle.plate_model.proofs.numbers.Extents.{place-within}

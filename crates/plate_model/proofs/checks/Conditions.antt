@@ -24,7 +24,7 @@ use Rattle.plate_model.specs.Fixed.{planesInAll, scratchPlanes, sideTop,
 use Rattle.plate_model.specs.Layout.{Size, padded, places, sumsInAll}
 use Rattle.plate_model.specs.Lent.{LentLengths, Ask}
 use Rattle.plate_model.specs.Refusal.{Refusal, Sizes, Lengths, LogCount, Place, Value, UnknownShape, LargeRadius, LogFull, LogEmpty, UnlawfulLens, DepthInside, refuseIf, sizesCheck, lengthCheck, lentCheck, inputsCheck, countCheck, placeCheck, valueCheck, shapeCheck, radiusCheck, fullCheck, emptyCheck, anyOf, anyAbove, isBetween, lensCheck, insideCheck}
-use Rattle.plate_model.specs.Change.{knownShape}
+use Rattle.plate_model.specs.Asked.{knownShape}
 use Rattle.plate_model.specs.Table.{SizesOutside, LentWrong, PlaceOutside, SomeOf, ShapeAbove, RadiusAbove, LensOutside, InsideLens, LawfulSize, LentFor}
 use Rattle.plate_model.proofs.checks.Rows.{Checks, refusing, passing, checks-both}
 

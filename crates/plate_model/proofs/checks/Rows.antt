@@ -7,9 +7,10 @@ use native.Mathlib.Omega.{arith}
 use lib.Dec.{lit≤}
 use lib.ListN.{getD}
 use Rattle.plate_model.specs.Refusal.{Refusal, Sizes, Lengths, LogCount, Place, Value, UnknownShape, LargeRadius, LogFull, LogEmpty, StoredWord, UnlawfulLens, Depth, DepthInside, Outcome, Accepted, Refused, refusalNumber, outcomeNumber}
-use Rattle.kernels_model.specs.Rows.{TableRow, row, FirstOf}
-use Rattle.kernels_model.proofs.refusals.Rows.{NoneOf, none-accepted, accepted-none, same-answer, first-says, first-then}
+use Rattle.kernels_model.specs.Rows.{TableRow, row, NoneOf, FirstOf}
+use Rattle.kernels_model.proofs.refusals.Rows.{none-accepted, accepted-none, same-answer, first-says, first-then}
 use Rattle.plate_model.specs.Table.{AnswersBy}
+use Rattle.plate_model.specs.RowsDecide.{RowsDecide}
 
 pub refused-not : {P : Type 0} (f : Refusal) → Refused f ≡ Accepted → P
 refused-not f e = let z : _≡_ {A = ℕ} 0 1 = cc in absurd (omega arith)
@@ -96,21 +97,33 @@ number-by rows o =
     (λ f e. ap outcomeNumber e)
     (λ e. ap outcomeNumber e)
 
--- it is accepted exactly where none applies
-pub none-refused : (rows : List (TableRow Refusal)) (o : Outcome) → OutcomeBy rows o → NoneOf rows → o ≡ Accepted
-none-refused rows o = none-accepted (λ f. o ≡ Refused f) (o ≡ Accepted) rows
+-- A NUMBER BY ROWS
+-- it is 0 exactly where none applies
+none-refused : (rows : List (TableRow Refusal)) (n : ℕ) → AnswersBy rows n → NoneOf rows → n ≡ 0
+none-refused rows n = none-accepted (λ f. n ≡ refusalNumber f) (n ≡ 0) rows
 
-pub refused-none : (rows : List (TableRow Refusal)) (o : Outcome) → OutcomeBy rows o → o ≡ Accepted → NoneOf rows
-refused-none rows o =
-    accepted-none (λ f. o ≡ Refused f) (o ≡ Accepted) rows (λ f r a. refused-not f (sym r ∙ a))
+refused-none : (rows : List (TableRow Refusal)) (n : ℕ) → AnswersBy rows n → n ≡ 0 → NoneOf rows
+refused-none rows n =
+    accepted-none (λ f. n ≡ refusalNumber f) (n ≡ 0) rows (λ f r a. absurd (omega (arith, refusal-some f, r, a)))
 
--- and there is one such answer
-pub answered-once : (rows : List (TableRow Refusal)) (o p : Outcome) → OutcomeBy rows o → OutcomeBy rows p → o ≡ p
-answered-once rows o p =
-    same-answer (λ f. o ≡ Refused f) (o ≡ Accepted) (λ f. p ≡ Refused f) (p ≡ Accepted) rows
+-- and there is one such number
+answered-once : (rows : List (TableRow Refusal)) (m n : ℕ) → AnswersBy rows m → AnswersBy rows n → m ≡ n
+answered-once rows m n =
+    same-answer (λ f. m ≡ refusalNumber f) (m ≡ 0) (λ f. n ≡ refusalNumber f) (n ≡ 0) rows
     (λ f a b. a ∙ sym b)
     (λ a b. a ∙ sym b)
 
+pub rows-decide : RowsDecide
+rows-decide =
+    record {
+      accepted-where-none = none-refused;
+      none-where-accepted = refused-none;
+      one-answer = answered-once;
+      own-number = numbers-apart;
+      number-some = refusal-some;
+    }
+
+-- AN OUTCOME BY ROWS
 -- past the last row a call is accepted
 pub last-row : OutcomeBy [] Accepted
 unfolding FirstOf

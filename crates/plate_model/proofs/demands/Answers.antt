@@ -13,7 +13,8 @@ use Rattle.plate_model.specs.Layout.{Size, sizeFrom}
 use Rattle.plate_model.specs.Lent.{State, stateOf, Lent, lengthsOf, Ask, ask, Inputs, Views, Canvas}
 use Rattle.plate_model.specs.Word.{readWord, readEntry}
 use Rattle.plate_model.specs.Refusal.{Refusal, Sizes, Lengths, LogCount, Place, Value, UnknownShape, LargeRadius, LogFull, StoredWord, UnlawfulLens, Depth, DepthInside, Outcome, Accepted, Refused, refusalNumber, outcomeNumber, openCheck, plateCheck, askCheck, putCheck, undoCheck, emptyCheck, fillFirst, layerCheck, fillCheck, viewsCheck, totalCheck, showCheck, sizesCheck, canvasCheck, keptCheck, showKeptCheck}
-use Rattle.plate_model.specs.Change.{Change, ChangeRead, ToChange, NoChange, askedPlace, putOver, putReadBy, putRead, undoOver, undoEntry, undoReadBy, undoRead}
+use Rattle.plate_model.specs.Asked.{askedPlace}
+use Rattle.plate_model.specs.Change.{Change, ChangeRead, ToChange, NoChange, putOver, putReadBy, putRead, undoOver, undoEntry, undoReadBy, undoRead}
 use Rattle.plate_model.specs.Calls.{Left, refused, Shown, shows, answerOf, openBy, openCall, putBy, putCall, undoBy, undoCall, fillBy, fillCall, showBy, showCall, changed}
 use Rattle.plate_model.specs.Kept.{Refreshed, leavesKept, keptRead, canvasFirst, canvasBy, putKeptBy, putKeptCall, undoKeptBy, undoKeptCall, sumsBy, ShownKept, showsKept, showKeptBy, showKeptCall}
 use Rattle.plate_model.specs.Total.{Totalled, totalled, noTotals, totalBy, totalCall}
@@ -119,7 +120,7 @@ undo-stored z e pixels (inr t) =
 
 -- PUT
 -- 4 to 8
-ask-first : (z : Size) (count room x y v a n r : ℕ)
+pub ask-first : (z : Size) (count room x y v a n r : ℕ)
     → OutcomeBy
     (row Place (PlaceOutside z x y)
     ∷ row Value (ValueAbove v)
@@ -175,7 +176,7 @@ undo-goes s l =
 
 -- FILL
 -- 5 6 11 12 17
-layer-first : (o : Lens) (k : ℕ) (f : Inputs)
+pub layer-first : (o : Lens) (k : ℕ) (f : Inputs)
     → OutcomeBy
     (row Value (SomeOf ValueAbove (f .values))
     ∷ row UnknownShape (ShapeAbove k)

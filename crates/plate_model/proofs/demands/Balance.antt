@@ -16,7 +16,8 @@ use Rattle.plate_model.specs.Lent.{stateOf}
 use Rattle.plate_model.specs.Word.{Pixel, Entry}
 use Rattle.plate_model.specs.Kernel.{weightOf}
 use Rattle.plate_model.specs.Refusal.{Accepted, totalCheck}
-use Rattle.plate_model.specs.Calls.{answerOf, zeros}
+use Rattle.plate_model.specs.Listed.{zeros}
+use Rattle.plate_model.specs.Calls.{answerOf}
 use Rattle.plate_model.specs.Plain.{pixelAt, lightOf, matteOf, gridCell}
 use Rattle.plate_model.specs.Total.{heldFrom, totalled, totalsOf, totalBy, totalCall}
 use Rattle.plate_model.specs.Balance.{hadBy, Balances}

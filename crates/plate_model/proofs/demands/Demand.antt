@@ -2,7 +2,7 @@
 -- holds. DEMAND 2: whatever calls it had, what it shows is plain spreading.
 use mathlib.Core.Path.{_≡_, refl, ap, _∙_}
 use native.Mathlib.Omega.{arith}
-use mathlib.Core.List.{List, [], _∷_}
+use mathlib.Core.List.{List, [], _∷_, _++_}
 use Prim.Native.Nat.{ℕ, zero, suc, _*_, _≤_, _<_}
 use lib.Dec.{lit<}
 use lib.ListN.{getD, length, replicate}
@@ -12,9 +12,10 @@ use Rattle.plate_model.specs.Word.{Pixel, empty, Entry}
 use Rattle.plate_model.specs.Refusal.{Refusal, Lengths, Outcome, Accepted, Refused, refusalNumber, viewsCheck, openCheck, showCheck, keptCheck, showKeptCheck}
 use Rattle.plate_model.specs.Change.{ChangeRead, NoChange}
 use Rattle.plate_model.specs.Lent.{stateOf, Lent, lengthsOf, Views, Canvas, Ask, ask, inputs}
-use Rattle.plate_model.specs.Calls.{Left, refused, answerOf, zeros, listTo, putBy, putCall, undoBy, undoCall, sumAt, shown, showBy, showCall, openCall}
+use Rattle.plate_model.specs.Listed.{zeros, listTo}
+use Rattle.plate_model.specs.Calls.{Left, refused, answerOf, putBy, putCall, undoBy, undoCall, sumAt, shown, showBy, showCall, openCall}
 use Rattle.plate_model.specs.Kept.{keptRead, canvasFirst, putKeptBy, putKeptCall, undoKeptBy, undoKeptCall, showKeptBy, showKeptCall}
-use Rattle.plate_model.specs.Plain.{matteOf, lightOf, plainSum, plainValues, plainMattes}
+use Rattle.plate_model.specs.Plain.{matteOf, lightOf, plainSum, plainSums, plainValues, plainMattes}
 use Rattle.plate_model.specs.Notebook.{Book, bookOf, openBook, both, Report, plain, BookLeft, bookShowBy, bookShow, bookKept, canvasWith, bookPutKept, bookUndoKept, bookShowKept}
 use Rattle.plate_model.specs.Lists.{Byte, codes, Call, Plate, leftBy, putIt, undoIt, fillIt, showIt, putKeptIt, undoKeptIt, showKeptIt, stepOf, seenBy, shownTo, plateStep, bookStep, plateReports, plateAfter, bookReports, bookAfter, Holds, Demand3, Demand2}
 use Rattle.plate_model.proofs.checks.Rows.{refusal-some, by-check}
@@ -38,6 +39,13 @@ module _ (z : Size) (room : ℕ) (planes : List ℕ) (grid : List Pixel) (pile :
   sums : (i : ℕ) → i < places z
       → (sumAt z planes 0 i ≡ plainSum z grid lightOf i) × (sumAt z planes planesEach i ≡ plainSum z grid matteOf i)
   sums = show-fact z planes grid (kept .lawful) (kept .cells-count) (kept .each-cell) (kept .grid-fits)
+
+  pub sums-plain : listTo (sumAt z planes 0) (places z) ++ listTo (sumAt z planes planesEach) (places z) ≡ plainSums z grid
+  unfolding plainSums
+  sums-plain =
+      let light = listTo-ext _ _ (places z) (λ i h. sums i h .0) in
+      let matte = listTo-ext _ _ (places z) (λ i h. sums i h .1) in
+      λ j. light j ++ matte j
 
   pub values-plain : listTo (λ i. shownValue (sumAt z planes 0 i) (sumAt z planes planesEach i)) (places z) ≡ plainValues z grid
   unfolding plainValues
@@ -64,7 +72,7 @@ module _ (z : Size) (room : ℕ) (planes : List ℕ) (grid : List Pixel) (pile :
   show-by v (Refused f) = agree-still z room planes grid pile kept _ _ (seen-refused (refusalNumber f) v (refusal-some f))
 
   -- a plate of its own calls is refused for its views alone
-  show-checked : (v : Views)
+  pub show-checked : (v : Views)
       → showCheck (stateOf z (length pile)) (length planes) (length (v .scratch)) (length (v .values)) (length (v .mattes))
       ≡ viewsCheck z (length (v .scratch)) (length (v .values)) (length (v .mattes))
   unfolding showCheck

@@ -23,7 +23,8 @@ use Rattle.plate_model.specs.Lent.{canvas}
 use Rattle.plate_model.specs.Word.{Pixel}
 use Rattle.plate_model.specs.Marks.{pixelMarks, layAll, exchanged}
 use Rattle.plate_model.specs.Change.{Change}
-use Rattle.plate_model.specs.Calls.{listTo, stored, sumAt}
+use Rattle.plate_model.specs.Listed.{listTo}
+use Rattle.plate_model.specs.Calls.{stored, sumAt}
 use Rattle.plate_model.specs.Plain.{lightOf, matteOf, weightAt}
 use Rattle.plate_model.specs.Kept.{inReach, inReachOr, mendedSum, keptLight, keptMatte, mendedLight, mendedMatte, mended, sumsOf}
 use Rattle.plate_model.specs.Painting.{canvasOf}
@@ -157,8 +158,8 @@ module _ (z : Size) (c : Change) (planes : List ℕ) (ok : Changeable z c (lengt
   unfolding mendedSum
   sum-mended p low worth from i =
       let inside : c .place < places z =
-      rw (ok .place-is) (place-within (c .x) (c .y) (z .width) (z .height) (ok .column-in) (ok .row-in)) in
-      sym (exchanged-sum z planes (c .place) (c .old) (c .new) (ok .lawful) (ok .planes-are) inside (ok .old-fits) (ok .new-fits)
+      rw (ok .change .place-is) (place-within (c .x) (c .y) (z .width) (z .height) (ok .change .column-in) (ok .change .row-in)) in
+      sym (exchanged-sum z planes (c .place) (c .old) (c .new) (ok .change .lawful) (ok .planes-are) inside (ok .change .old-fits) (ok .change .new-fits)
       p low worth from i)
 
   -- and where a cell is out of reach the sums of both plates are the same
@@ -170,16 +171,16 @@ module _ (z : Size) (c : Change) (planes : List ℕ) (ok : Changeable z c (lengt
 
   -- both for light and for matte
   light-mended : (i : ℕ) → i < places z → mendedLight z c (canvasOf z planes) i ≡ sumAt z after 0 i
-  light-mended i h = rw (kept-light z planes i h) (sum-mended 0 (omega arith) lightOf (in-light z (ok .lawful)) i)
+  light-mended i h = rw (kept-light z planes i h) (sum-mended 0 (omega arith) lightOf (in-light z (ok .change .lawful)) i)
 
   matte-mended : (i : ℕ) → i < places z → mendedMatte z c (canvasOf z planes) i ≡ sumAt z after planesEach i
-  matte-mended i h = rw (kept-matte z planes i h) (sum-mended planesEach (omega arith) matteOf (in-matte z (ok .lawful)) i)
+  matte-mended i h = rw (kept-matte z planes i h) (sum-mended planesEach (omega arith) matteOf (in-matte z (ok .change .lawful)) i)
 
   light-still : (i : ℕ) → inReach z c i ≡ false → sumAt z planes 0 i ≡ sumAt z after 0 i
-  light-still = sum-still 0 (omega arith) lightOf (in-light z (ok .lawful))
+  light-still = sum-still 0 (omega arith) lightOf (in-light z (ok .change .lawful))
 
   matte-still : (i : ℕ) → inReach z c i ≡ false → sumAt z planes planesEach i ≡ sumAt z after planesEach i
-  matte-still = sum-still planesEach (omega arith) matteOf (in-matte z (ok .lawful))
+  matte-still = sum-still planesEach (omega arith) matteOf (in-matte z (ok .change .lawful))
 
   -- a list of cells mended in reach is that of the plate after the change, if each cell is
   cells-mended : (new kept then : ℕ → ℕ) → ((i : ℕ) → i < places z → new i ≡ then i)

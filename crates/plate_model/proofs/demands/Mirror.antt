@@ -14,7 +14,8 @@ use Rattle.plate_model.specs.Refusal.{Refusal, LogEmpty, Outcome, Accept
 use Rattle.plate_model.specs.Lent.{stateOf, Lent, lent, lengthsOf, Ask}
 use Rattle.plate_model.specs.Marks.{pixelMarks, onCell, exchanged}
 use Rattle.plate_model.specs.Calls.{refused, putBy, putCall, undoBy, undoCall, changed}
-use Rattle.plate_model.specs.Change.{askedPlace, askedPixel, putOver, undoOver, undoEntry, putRead, undoRead, putReadBy, undoReadBy}
+use Rattle.plate_model.specs.Asked.{askedPlace, askedPixel}
+use Rattle.plate_model.specs.Change.{putOver, undoOver, undoEntry, putRead, undoRead, putReadBy, undoReadBy}
 use Rattle.plate_model.specs.Plain.{pixelAt, gridCell}
 use Rattle.plate_model.specs.Notebook.{bookOf, Report, BookLeft, bookLeft, bookRefused, bookPutBy, bookPut, bookUndoOf, bookUndo}
 use Rattle.plate_model.specs.Lists.{Plate, Step, stepOf}

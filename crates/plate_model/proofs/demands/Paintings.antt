@@ -1,5 +1,5 @@
 -- Refresh under the brush: kept sums and pictures that are those of the plate before a call are those of the plate after it, call
--- after call; and on a plate of its own calls the kept pictures are plain spreading.
+-- after call; and on a plate of its own calls what is kept is plain spreading.
 use mathlib.Core.Path.{_≡_, refl, ap, sym, _∙_}
 use mathlib.Core.List.{List, [], _∷_, _++_, map}
 use Prim.Native.Nat.{ℕ, _+_, _-_, _<_}
@@ -11,8 +11,9 @@ use Rattle.plate_model.specs.Lent.{State, Ask, ask, Lent, lengthsOf, Vie
 use Rattle.plate_model.specs.Marks.{exchanged}
 use Rattle.plate_model.specs.Refusal.{Refusal, Outcome, Accepted, Refused, outcomeNumber, canvasCheck, openCheck, showCheck, showKeptCheck, keptCheck}
 use Rattle.plate_model.specs.Change.{Change, ChangeRead, ToChange, NoChange}
-use Rattle.plate_model.specs.Calls.{listTo, openCall, changed, putBy, putCall, undoBy, undoCall, sumAt, valuesOf, mattesOf, showBy}
-use Rattle.plate_model.specs.Plain.{plainValues, plainMattes}
+use Rattle.plate_model.specs.Listed.{listTo}
+use Rattle.plate_model.specs.Calls.{openCall, changed, putBy, putCall, undoBy, undoCall, sumAt, showBy}
+use Rattle.plate_model.specs.Plain.{plainSums, plainValues, plainMattes}
 use Rattle.plate_model.specs.Notebook.{openBook}
 use Rattle.plate_model.specs.Kept.{keptRead, canvasFirst, canvasBy, putKeptBy, putKeptCall, undoKeptBy, undoKeptCall, sumsOf, sumsBy, showKeptBy, showKeptCall}
 use Rattle.plate_model.specs.Painting.{canvasOf, StaysFresh, KeptCall, keptPut, keptUndo, Painting, paint, paintAll, shownCanvas, shownPainting, AsMuch, PaintsFresh, firstForm, PaintsPlain}
@@ -26,7 +27,7 @@ use Rattle.plate_model.proofs.checks.Conditions.{canvas-checks}
 use Rattle.plate_model.proofs.changing.Changes.{no-change, put-ready, undo-ready}
 use Rattle.plate_model.proofs.laying.LaidCells.{length-exchanged}
 use Rattle.plate_model.proofs.demands.Exchanges.{mended-fresh}
-use Rattle.plate_model.proofs.demands.Demand.{values-plain, mattes-plain, opened}
+use Rattle.plate_model.proofs.demands.Demand.{sums-plain, values-plain, mattes-plain, opened}
 
 -- ONE CALL
 -- what comes after the refusals of sums and pictures is what the first form reads
@@ -216,17 +217,19 @@ after-append p [] more = refl
 after-append p (c ∷ calls) more = after-append (plateStep p c .plate) calls more
 
 -- PLAIN SPREADING
--- the pictures of a plate of its own calls are plain
-pictures-plain : (z : Size) (l : Lent) (calls : List Call) → openCheck z (lengthsOf l) ≡ Accepted →
+-- the sums and pictures of a plate of its own calls are plain
+canvas-plain : (z : Size) (l : Lent) (calls : List Call) → openCheck z (lengthsOf l) ≡ Accepted →
     let p = plateAfter (leftBy (openCall z l)) calls in
     let grid = bookAfter (openBook z (length (l .log))) calls .grid in
-    (valuesOf (p .state .size) (p .buffers .planes) ≡ plainValues z grid)
-    × (mattesOf (p .state .size) (p .buffers .planes) ≡ plainMattes z grid)
-pictures-plain z l calls e =
+    canvasOf (p .state .size) (p .buffers .planes) ≡ canvas (plainSums z grid) (plainValues z grid) (plainMattes z grid)
+unfolding sumsOf
+canvas-plain z l calls e =
     let room = length (l .log) in
     let f = opened z l calls e in
-    rw (f .same-plate, f .same-book)
-    (values-plain z room (f .planes) (f .grid) (f .pile) (f .kept), mattes-plain z room (f .planes) (f .grid) (f .pile) (f .kept))
+    let sums = sums-plain z room (f .planes) (f .grid) (f .pile) (f .kept) in
+    let values = values-plain z room (f .planes) (f .grid) (f .pile) (f .kept) in
+    let mattes = mattes-plain z room (f .planes) (f .grid) (f .pile) (f .kept) in
+    rw (f .same-plate, f .same-book) (λ i. canvas (sums i) (values i) (mattes i))
 
 pub paints-plain : PaintsPlain
 paints-plain z l calls v sums changes e ok =
@@ -241,6 +244,6 @@ paints-plain z l calls v sums changes e ok =
     paint-plates start changes law fresh
     ∙ ap (λ (q : Plate). plateAfter q (map firstForm changes)) same
     ∙ sym (after-append new calls (map firstForm changes)) in
-    let kept = paints-kept start changes fresh ∙ ap (λ (q : Plate). canvasOf (q .state .size) (q .buffers .planes)) end in
-    let plain = pictures-plain z l (calls ++ map firstForm changes) e in
-    (ap (λ (k : Canvas). k .values) kept ∙ plain .0, ap (λ (k : Canvas). k .mattes) kept ∙ plain .1)
+    paints-kept start changes fresh
+    ∙ ap (λ (q : Plate). canvasOf (q .state .size) (q .buffers .planes)) end
+    ∙ canvas-plain z l (calls ++ map firstForm changes) e

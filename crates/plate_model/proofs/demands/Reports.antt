@@ -13,13 +13,13 @@ use Rattle.plate_model.specs.Layout.{Size}
 use Rattle.plate_model.specs.Word.{Pixel, Entry}
 use Rattle.plate_model.specs.Refusal.{Refusal, refusalNumber, Outcome, Accepted, Refused, askCheck}
 use Rattle.plate_model.specs.Lent.{Ask, ask, Inputs, inputs, Views}
-use Rattle.plate_model.specs.Change.{askedPlace, askedPixel, knownShape}
+use Rattle.plate_model.specs.Asked.{askedPlace, askedPixel, knownShape}
 use Rattle.plate_model.specs.Plain.{pixelAt}
 use Rattle.plate_model.specs.Notebook.{Book, bookOf, Report, plain, bookPutBy, bookPut, bookUndoOf, bookUndo, bookFillBy, bookFill, bookShowBy, bookShow, BookLeft, bookKept, bookPutKept, bookUndoKept, bookShowKept}
-use Rattle.plate_model.specs.Lists.{Byte, codes, Call, putIt, undoIt, fillIt, showIt, putKeptIt, undoKeptIt, showKeptIt, plateStep, bookStep, bookReports}
-use Rattle.plate_model.specs.Counts.{Few, CountOf, Counted, ListsCounted}
+use Rattle.plate_model.specs.Lists.{Byte, codes, Call, putIt, undoIt, fillIt, showIt, putKeptIt, undoKeptIt, showKeptIt, plateStep, bookStep}
+use Rattle.plate_model.specs.Counts.{Few, CountOf, ListsCounted}
 use Rattle.plate_model.proofs.checks.Rows.{refusal-some}
-use Rattle.plate_model.proofs.demands.Demand.{demand-3}
+use Rattle.plate_model.proofs.demands.EachReports.{in-lists}
 use Rattle.plate_model.proofs.demands.Mirror.{Mirrored, mirror, put-agrees, undo-agrees}
 use Rattle.plate_model.specs.Kernel.{markCount}
 
@@ -120,11 +120,5 @@ step-counted b (putKeptIt x y v a s r k) = kept-few _ b _ (put-few b (ask x y v 
 step-counted b (undoKeptIt k) = kept-few _ b _ (book-undo-few b)
 step-counted b (showKeptIt v sums) = kept-none _ b _ (book-show-none b v)
 
-pub book-counted : (b : Book) (calls : List Call) → Counted calls (bookReports b calls)
-unfolding Counted bookReports
-book-counted b [] = tt
-book-counted b (c ∷ cs) = (step-counted b c, book-counted (bookStep b c .book) cs)
-
--- and so of the plate's reports
 pub plate-counted : ListsCounted
-plate-counted z l calls e = rw (demand-3 z l calls e .0) (book-counted _ calls)
+plate-counted = in-lists (λ z c r. CountOf c r) step-counted

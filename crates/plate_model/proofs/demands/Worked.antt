@@ -11,7 +11,8 @@ use Rattle.kernels_model.specs.Rounding.{nearest, nearestEven, shownValue, show
 use Rattle.plate_model.specs.Layout.{Size}
 use Rattle.plate_model.specs.Refusal.{Accepted, refuseIf, sizesCheck, lentCheck, placeCheck, shapeCheck, radiusCheck, askCheck, viewsCheck, openCheck}
 use Rattle.plate_model.specs.Lent.{Lent, lent, lengthsOf, Views, views}
-use Rattle.plate_model.specs.Calls.{zeros, listTo, openCall}
+use Rattle.plate_model.specs.Listed.{zeros, listTo}
+use Rattle.plate_model.specs.Calls.{openCall}
 use Rattle.plate_model.specs.Plain.{plainSum, plainValues, plainMattes}
 use Rattle.plate_model.specs.Notebook.{openBook, both, Report, plain, bookPutBy, bookPut, bookUndoOf, bookUndo, bookShowBy, bookShow}
 use Rattle.plate_model.specs.Lists.{Byte, Call, putIt, undoIt, showIt, leftBy, plateReports, bookStep, bookReports}

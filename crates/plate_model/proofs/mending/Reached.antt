@@ -1,12 +1,11 @@
 -- Which cells are in reach: by the taps of the two kernels, and so by their rows.
 use mathlib.Core.Path.{_≡_, refl, sym}
-use mathlib.Core.Bool.{Bool, true, false, not}
+use mathlib.Core.Bool.{Bool, true, false, not, _||_}
 use mathlib.Core.Logic.{_≢_, _⊎_, inl, inr, ⊎-elim}
 use Prim.Native.Nat.{ℕ, _+_, _-_, _/_, _%_, _≤_, _<_}
 use native.Mathlib.Omega.{arith}
 use lib.Dec.{eqb}
 use borrow.Author.Tests.{eqb-true}
-use Rattle.kernels_model.specs.Choice.{pick}
 use Rattle.kernels_model.specs.Sum.{dist}
 use Rattle.kernels_model.specs.Shape.{reachOf}
 use Rattle.kernels_model.specs.declared.band.Band.{Band}
@@ -20,10 +19,10 @@ use Rattle.plate_model.proofs.checks.Conditions.{true-not}
 
 -- TAPS
 -- a cell is in reach by a tap of either kernel, and by nothing else
-by-taps : (a b : ℕ) → (a ≢ 0) ⊎ (b ≢ 0) → pick (eqb a 0) (not (eqb b 0)) true ≡ true
+by-taps : (a b : ℕ) → (a ≢ 0) ⊎ (b ≢ 0) → (not (eqb a 0) || not (eqb b 0)) ≡ true
 by-taps a b h = by-test (eqb a 0) zero (λ e. rw e)
   where
-    zero : eqb a 0 ≡ true → pick (eqb a 0) (not (eqb b 0)) true ≡ true
+    zero : eqb a 0 ≡ true → (not (eqb a 0) || not (eqb b 0)) ≡ true
     zero e =
         by-test (eqb b 0)
         (λ f. absurd (⊎-elim (λ n. n (eqb-true a 0 e)) (λ n. n (eqb-true b 0 f)) h))
@@ -40,7 +39,7 @@ unfolding inReach
 no-tap-reaches z c i e f h = true-not (sym (rw (e, f) at h))
 
 -- and a cell that is not in reach is one where both taps are 0
-none-of-taps : (a b : Bool) → pick a (not b) true ≡ false → (a ≡ true) × (b ≡ true)
+none-of-taps : (a b : Bool) → (not a || not b) ≡ false → (a ≡ true) × (b ≡ true)
 none-of-taps true true e = (refl, refl)
 none-of-taps true false e = true-not e
 none-of-taps false b e = true-not e

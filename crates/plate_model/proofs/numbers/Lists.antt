@@ -7,7 +7,7 @@ use lib.ListN.{getD, set, length, replicate, length-replicate, length-append, ge
 use lib.Seq.{ext-getD, getD-append-add, getD-set-same, getD-set-other, set-out}
 use Rattle.kernels_model.proofs.numbers.Choices.{by-lt, by-eq}
 use Rattle.plate_model.specs.Word.{Pixel, empty, wordOf}
-use Rattle.plate_model.specs.Calls.{zeros, listTo}
+use Rattle.plate_model.specs.Listed.{zeros, listTo}
 use Rattle.plate_model.specs.Plain.{pixelAt}
 
 -- ONE VALUE, MANY TIMES

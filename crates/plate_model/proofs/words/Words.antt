@@ -92,7 +92,7 @@ record Reads (R w : ℕ) (p : Pixel) : Type 0 where
   opacity-is : p .opacity ≡ w / 2 ^ 12 % 256
   radius-is : p .radius ≡ w / 2 ^ 24 % 256
 
-broken-not : {P : Type 0} (p : Pixel) → Broken ≡ Whole p → P
+pub broken-not : {P : Type 0} (p : Pixel) → Broken ≡ Whole p → P
 broken-not p e = let z : _≡_ {A = ℕ} 0 1 = cc in absurd (omega arith)
 
 reads : (R w : ℕ) (p : Pixel) → readWord R w ≡ Whole p → Reads R w p
@@ -174,7 +174,7 @@ entry-back z e h f =
     low : (w i : ℕ) → w < 2 ^ wordBits → (w + 2 ^ wordBits * i) % 2 ^ wordBits ≡ w
     low w i h = omega arith
 
-unreadable-not : {P : Type 0} (e : Entry) → Unreadable ≡ Logged e → P
+pub unreadable-not : {P : Type 0} (e : Entry) → Unreadable ≡ Logged e → P
 unreadable-not e q = let z : _≡_ {A = ℕ} 0 1 = cc in absurd (omega arith)
 
 -- what is read is lawful and packs to the entry that was read

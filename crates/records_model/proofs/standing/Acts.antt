@@ -13,7 +13,8 @@ use Rattle.plate_model.specs.declared.state.Outcome.the-variants.{Accepted, Ref
 use Rattle.plate_model.specs.declared.state.Refusal.the-variants.{Sizes as BadSizes}
 use Rattle.plate_model.specs.Refusal.{refuseIf, sizesCheck, lentCheck, openCheck}
 use Rattle.plate_model.specs.Lent.{stateOf, lengthsOf}
-use Rattle.plate_model.specs.Calls.{zeros, openBy, openCall, putCall, undoCall}
+use Rattle.plate_model.specs.Listed.{zeros}
+use Rattle.plate_model.specs.Calls.{openBy, openCall, putCall, undoCall}
 use Rattle.plate_model.specs.Word.{empty}
 use Rattle.plate_model.specs.Lists.{Plate, leftBy}
 use Rattle.plate_model.proofs.checks.Rows.{by-check}

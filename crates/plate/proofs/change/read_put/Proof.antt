@@ -10,7 +10,8 @@ use Rattle.plate_model.specs.declared.word.Unpacked.the-variants.{Whole}
 use Rattle.plate_model.specs.Word.{readWord}
 use Rattle.plate_model.specs.declared.state.Outcome.the-variants.{Accepted}
 use Rattle.plate_model.specs.Refusal.{putCheck}
-use Rattle.plate_model.specs.Change.{askedPlace, askedPixel, putOver, putReadBy, putRead}
+use Rattle.plate_model.specs.Asked.{askedPlace, askedPixel}
+use Rattle.plate_model.specs.Change.{putOver, putReadBy, putRead}
 use Rattle.plate_model.proofs.checks.Accepted.{PlateAccepted, plate-accepted, AskAccepted, ask-accepted}
 use Rattle.plate.proofs.laws.checks.Asked.{pixel-asked, pixel-not-asked}
 use Rattle.plate.proofs.change.read_put.Statement.{statement}

@@ -17,7 +17,7 @@ exchange-marks-requires : tie.Need-exchange-marks-requires
 exchange-marks-requires c κs = c .before .before .before .pre .0
 
 pack-requires : tie.Need-pack-requires
-pack-requires c κs = start (c .before .before .before .before) .pre .0 .new-fits .value-fits
+pack-requires c κs = start (c .before .before .before .before) .pre .0 .change .new-fits .value-fits
 
 mul-pixels : tie.Need-mul-pixels
 mul-pixels c = let s = start (moved c) in omega (arith, s .pre .1, s .good)

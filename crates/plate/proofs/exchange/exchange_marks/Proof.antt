@@ -12,10 +12,10 @@ placed : (c : tie.After-frame-of) → let a = c .before .before .args in
     Placed (c .frame-of .result) (a .change .x) (a .change .y)
 placed c =
     let s = c .before .before in
-    rw (c .frame-of .ensures) (record { framed = refl; column-in = s .pre .column-in; row-in = s .pre .row-in })
+    rw (c .frame-of .ensures) (record { framed = refl; column-in = s .pre .change .column-in; row-in = s .pre .change .row-in })
 
 frame-of-requires : tie.Need-frame-of-requires
-frame-of-requires c κs = c .before .pre .lawful
+frame-of-requires c κs = c .before .pre .change .lawful
 
 -- what holds of either pixel is at hand for both calls: which of them a call is to have, only what is laid decides
 take-pixel-requires : tie.Need-take-pixel-requires
@@ -24,8 +24,8 @@ take-pixel-requires c κs =
     let old-share = new-share .before in
     let framed = old-share .before .before .before in
     let s = framed .before .before in
-    let old-fits = s .pre .old-fits .radius-fits in
-    let new-fits = s .pre .new-fits .radius-fits in
+    let old-fits = s .pre .change .old-fits .radius-fits in
+    let new-fits = s .pre .change .new-fits .radius-fits in
     let old-is = old-share .share-of .ensures in
     let new-is = new-share .share-of2 .ensures in
     record {
@@ -41,8 +41,8 @@ lay-pixel-requires c κs =
     let old-share = new-share .before in
     let framed = old-share .before .before .before in
     let s = framed .before .before in
-    let old-fits = s .pre .old-fits .radius-fits in
-    let new-fits = s .pre .new-fits .radius-fits in
+    let old-fits = s .pre .change .old-fits .radius-fits in
+    let new-fits = s .pre .change .new-fits .radius-fits in
     let old-is = old-share .share-of .ensures in
     let new-is = new-share .share-of2 .ensures in
     record {
@@ -59,7 +59,7 @@ returns c =
     let taken = laid .before .before .before .before in
     let framed = taken .before .before .before .before .before .before in
     let s = framed .before .before in
-    rw (laid .lay-pixel .ensures, taken .take-pixel .ensures, framed .frame-of .ensures, s .pre .place-is)
+    rw (laid .lay-pixel .ensures, taken .take-pixel .ensures, framed .frame-of .ensures, s .pre .change .place-is)
 
 pub exchange-marks-spec : {M : Type 1} → statement M
 exchange-marks-spec =

@@ -22,9 +22,10 @@ use Rattle.plate_model.specs.declared.state.Refusal.{Refusal}
 use Rattle.plate_model.specs.declared.state.Outcome.{Outcome}
 use Rattle.plate_model.specs.declared.state.Outcome.the-variants.{Accepted, Refused}
 use Rattle.plate_model.specs.Refusal.{layerCheck, fillCheck}
-use Rattle.plate_model.specs.Change.{knownShape}
+use Rattle.plate_model.specs.Asked.{knownShape, filled}
 use Rattle.plate_model.specs.Marks.{pixelMarks, layAll, layGrid}
-use Rattle.plate_model.specs.Calls.{left, answerOf, refused, listTo, filled, fillBy, fillCall}
+use Rattle.plate_model.specs.Listed.{listTo}
+use Rattle.plate_model.specs.Calls.{left, answerOf, refused, fillBy, fillCall}
 use Rattle.plate.specs.Filling.{Layer, ToFill, NoFill, readBy, layerRead, layerSize, pixelOf, pixelFrom, Ready, FilledTo, Refilled, fillLengths, inputsRead, layerOf}
 use Rattle.plate_model.proofs.checks.Rows.{and-then}
 use Rattle.plate_model.proofs.checks.Accepted.{layer-accepted}

@@ -30,12 +30,7 @@ pub mend-ready : (z : Size) (c : Change) (n : ℕ) (k : Canvas) → Changeable z
 mend-ready z c n k h e =
     let q = kept-accepted z (length (k .sums)) (length (k .values)) (length (k .mattes)) e in
     record {
-      lawful = q .lawful;
-      place-is = h .place-is;
-      column-in = h .column-in;
-      row-in = h .row-in;
-      old-fits = h .old-fits;
-      new-fits = h .new-fits;
+      change = h .change;
       sums-are = q .sums-are;
       values-are = q .values-are;
       mattes-are = q .mattes-are;
@@ -44,21 +39,16 @@ mend-ready z c n k h e =
 module _ (z : Size) (c : Change) (k : Canvas) (ready : MendReady z c k) where
   -- the column and the row of the change
   pub change-column : c .place % z .width ≡ c .x
-  change-column = rw (ready .place-is) (column-is (c .x) (c .y) (z .width) (ready .column-in))
+  change-column = rw (ready .change .place-is) (column-is (c .x) (c .y) (z .width) (ready .change .column-in))
 
   pub change-row : c .place / z .width ≡ c .y
-  change-row = rw (ready .place-is) (row-is (c .x) (c .y) (z .width) (ready .column-in))
+  change-row = rw (ready .change .place-is) (row-is (c .x) (c .y) (z .width) (ready .change .column-in))
 
   -- sums and pictures of the same lengths are ready too
   pub still-ready : (done : ℕ → Type 0) (k' : Canvas) → MendedWhere z c done k k' → MendReady z c k'
   still-ready done k' h =
       record {
-        lawful = ready .lawful;
-        place-is = ready .place-is;
-        column-in = ready .column-in;
-        row-in = ready .row-in;
-        old-fits = ready .old-fits;
-        new-fits = ready .new-fits;
+        change = ready .change;
         sums-are = h .same-sums ∙ ready .sums-are;
         values-are = h .same-values ∙ ready .values-are;
         mattes-are = h .same-mattes ∙ ready .mattes-are;
@@ -71,8 +61,8 @@ module _ (z : Size) (c : Change) (k : Canvas) (ready : MendReady z c k) where
     pub cell-ready : (column : ℕ) → column < z .width → CellIn (places z) (row * z .width + column) old new k
     cell-ready column inside =
         record {
-          old-few = gives-few (z .reach) (c .old) _ old (ready .old-fits) old-is;
-          new-few = gives-few (z .reach) (c .new) _ new (ready .new-fits) new-is;
+          old-few = gives-few (z .reach) (c .old) _ old (ready .change .old-fits) old-is;
+          new-few = gives-few (z .reach) (c .new) _ new (ready .change .new-fits) new-is;
           place-in = place-within column row (z .width) (z .height) inside row-in;
           sums-are = ready .sums-are;
           values-are = ready .values-are;
@@ -110,7 +100,7 @@ module _ (z : Size) (c : Change) (k : Canvas) (ready : MendReady z c k) where
 
         from : (i : ℕ) → i < places z → InRow z c row i → InColumns z row first column i
         from i h s =
-            let inside : i % z .width < z .width = mod-lt i (ready .lawful .width-some) in
+            let inside : i % z .width < z .width = mod-lt i (ready .change .lawful .width-some) in
             by-lt (dist (i % z .width) (c .x)) span
             (λ g. (s .0, omega (arith, g, starts), omega (arith, g, ends, low, inside)))
             (λ g. absurd
@@ -123,10 +113,10 @@ pub span-low : (z : Size) (c : Change) (row : ℕ) (old new : Given) (k : Canvas
     → (old .band .span ≤ reachTop + 1) × (new .band .span ≤ reachTop + 1)
 span-low z c row old new k r =
     let R = z .reach in
-    let one = reach-under R (c .old .shape) (c .old .radius) (r .ready .old-fits .radius-fits) in
-    let two = reach-under R (c .new .shape) (c .new .radius) (r .ready .new-fits .radius-fits) in (
-      omega (arith, r .old-is .band-is .span-in, one, r .ready .lawful .reach-top),
-      omega (arith, r .new-is .band-is .span-in, two, r .ready .lawful .reach-top),
+    let one = reach-under R (c .old .shape) (c .old .radius) (r .ready .change .old-fits .radius-fits) in
+    let two = reach-under R (c .new .shape) (c .new .radius) (r .ready .change .new-fits .radius-fits) in (
+      omega (arith, r .old-is .band-is .span-in, one, r .ready .change .lawful .reach-top),
+      omega (arith, r .new-is .band-is .span-in, two, r .ready .change .lawful .reach-top),
     )
 
 -- ALL ROWS
@@ -164,7 +154,7 @@ rows-mended z c k k' first past row reach ready old new starts ends low =
   where
     from : (i : ℕ) → i < places z → inReach z c i ≡ true → InRows z c first row i
     from i h s =
-        let down : i / z .width < z .height = row-of i (z .width) (z .height) (ready .lawful .width-some) h in
+        let down : i / z .width < z .height = row-of i (z .width) (z .height) (ready .change .lawful .width-some) h in
         by-lt reach (dist (i / z .width) (c .y))
         (λ g. absurd (row-not-reached z c i reach old new (rw (change-row z c k ready) g) s))
         (λ g. (omega (arith, g, starts), omega (arith, g, ends, low, down), s))

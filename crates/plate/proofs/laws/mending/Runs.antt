@@ -89,7 +89,7 @@ pub run-in : (z : Size) (c : Change) (row : ℕ) (old new : Given) (k : Canvas) 
 run-in z c row old new k r t run a sums e =
     let low = row-in row (z .width) (z .height) (r .row-in) in
     record {
-      from-in = omega (arith, a .0, r .ready .column-in, low);
+      from-in = omega (arith, a .0, r .ready .change .column-in, low);
       past-in = omega (arith, a .1, low);
       sums-are = e;
     }
@@ -221,7 +221,7 @@ module _ (z : Size) (c : Change) (row : ℕ) (old new : Given) (k : Canvas) (r :
         same-values = shown .in-values .same;
         same-mattes = shown .in-mattes .same;
         mends = λ i h s.
-            let inside : i % z .width < z .width = mod-lt i (r .ready .lawful .width-some) in
+            let inside : i % z .width < z .width = mod-lt i (r .ready .change .lawful .width-some) in
             let at : row * z .width + i % z .width ≡ i = (rw (s .0) at (div-add-mod' i (z .width))) in
             rw at at (here (i % z .width) inside (s .1) (omega (arith, s .1, s .2)));
         keeps = there;

@@ -46,9 +46,9 @@ reaches c =
         most,
         first,
         second,
-        reach-under R (old .shape) (old .radius) (s .pre .old-fits .radius-fits),
-        reach-under R (new .shape) (new .radius) (s .pre .new-fits .radius-fits),
-        s .pre .lawful .reach-top,
+        reach-under R (old .shape) (old .radius) (s .pre .change .old-fits .radius-fits),
+        reach-under R (new .shape) (new .radius) (s .pre .change .new-fits .radius-fits),
+        s .pre .change .lawful .reach-top,
       ),
     )
 
@@ -57,7 +57,7 @@ add-columns-around c = omega (arith, reaches c .2)
 
 columns-around-requires : tie.Need-columns-around-requires Inv-loop μ-loop
 columns-around-requires c κs =
-    let s = start c in (s .pre .row-in, s .pre .lawful .height-top, omega (arith, reaches c .2))
+    let s = start c in (s .pre .change .row-in, s .pre .change .lawful .height-top, omega (arith, reaches c .2))
 
 loop-holds : tie.Need-loop-holds Inv-loop μ-loop
 loop-holds c = (omega arith, mended-none _ _ _ _ (λ i s. omega (arith, s .0, s .1)))
@@ -81,7 +81,7 @@ mend-row-requires c κs =
 add-row : tie.Need-add-row Inv-loop μ-loop
 add-row c =
     let test = c .before .before .before .before .before .before .before .before .before .before in
-    omega (arith, row-in test, start (shaped test .before) .pre .lawful .height-top)
+    omega (arith, row-in test, start (shaped test .before) .pre .change .lawful .height-top)
 
 loop-less : tie.Need-loop-less Inv-loop μ-loop
 loop-less c =

@@ -40,19 +40,19 @@ place-in c =
     omega (
       arith,
       place-within (c .before .loop .column) (s .args .row) (s .args .size .width) (s .args .size .height) (column-in c) (s .pre .row-in),
-      s .pre .ready .lawful .places-top,
+      s .pre .ready .change .lawful .places-top,
     )
 
 mul-places : tie.Need-mul-places Inv-loop μ-loop
 mul-places c =
-    let pre = c .before .before .before .before .pre in omega (arith, pre .ready .lawful .places-top)
+    let pre = c .before .before .before .before .pre in omega (arith, pre .ready .change .lawful .places-top)
 
 columns-around-requires : tie.Need-columns-around-requires Inv-loop μ-loop
 columns-around-requires c κs =
     let s = c .before .before .before .before .before in (
-      s .pre .ready .column-in,
-      s .pre .ready .lawful .width-top,
-      omega (arith, c .greater .ensures, span-low _ _ _ _ _ _ (s .pre), s .pre .ready .lawful .width-top),
+      s .pre .ready .change .column-in,
+      s .pre .ready .change .lawful .width-top,
+      omega (arith, c .greater .ensures, span-low _ _ _ _ _ _ (s .pre), s .pre .ready .change .lawful .width-top),
     )
 
 loop-holds : tie.Need-loop-holds Inv-loop μ-loop
@@ -75,7 +75,7 @@ mend-cell-requires c κs =
 add-column : tie.Need-add-column Inv-loop μ-loop
 add-column c =
     let test = c .before .before .before .before .before .before .before .before .before .before .before .before in
-    omega (arith, column-in test, start (shaped test) .pre .ready .lawful .width-top)
+    omega (arith, column-in test, start (shaped test) .pre .ready .change .lawful .width-top)
 
 loop-less : tie.Need-loop-less Inv-loop μ-loop
 loop-less c =

@@ -18,7 +18,7 @@ use Rattle.plate.proofs.mend.mend_runs.Tie as tie
 
 -- the row's places are far below 2 ^ 64
 places-low : (s : tie.Start) → s .args .size .width * s .args .size .height ≤ placesTop
-places-low s = s .pre .0 .ready .lawful .places-top
+places-low s = s .pre .0 .ready .change .lawful .places-top
 
 row-low : (s : tie.Start) → let a = s .args in a .row * a .size .width + a .size .width ≤ a .size .width * a .size .height
 row-low s = let a = s .args in row-in (a .row) (a .size .width) (a .size .height) (s .pre .0 .row-in)
@@ -29,17 +29,17 @@ mul-start c = let s = c .before .before .before .before in omega (arith, row-low
 columns-around-requires : tie.Need-columns-around-requires
 columns-around-requires c κs =
     let s = c .before .before .before .before in
-    let r = s .pre .0 in (r .ready .column-in, r .ready .lawful .width-top, omega (arith, span-low _ _ _ _ _ _ r .0))
+    let r = s .pre .0 in (r .ready .change .column-in, r .ready .change .lawful .width-top, omega (arith, span-low _ _ _ _ _ _ r .0))
 
 columns-around-requires-2 : tie.Need-columns-around-requires-2
 columns-around-requires-2 c κs =
     let s = c .before .before .before .before .before in
-    let r = s .pre .0 in (r .ready .column-in, r .ready .lawful .width-top, omega (arith, span-low _ _ _ _ _ _ r .1))
+    let r = s .pre .0 in (r .ready .change .column-in, r .ready .change .lawful .width-top, omega (arith, span-low _ _ _ _ _ _ r .1))
 
 level-amounts-requires : tie.Need-level-amounts-requires
 level-amounts-requires c κs =
     let s = c .before .before .before .before .before .before .before in
-    gives-few _ _ _ _ (s .pre .0 .ready .old-fits) (s .pre .0 .old-is)
+    gives-few _ _ _ _ (s .pre .0 .ready .change .old-fits) (s .pre .0 .old-is)
 
 give-run-requires : tie.Need-give-run-requires
 give-run-requires c κs =
@@ -49,7 +49,7 @@ give-run-requires c κs =
 level-amounts-requires-2 : tie.Need-level-amounts-requires-2
 level-amounts-requires-2 c κs =
     let s = c .before .before .before .before .before .before .before .before .before .before .before .before .before in
-    gives-few _ _ _ _ (s .pre .0 .ready .new-fits) (s .pre .0 .new-is)
+    gives-few _ _ _ _ (s .pre .0 .ready .change .new-fits) (s .pre .0 .new-is)
 
 give-run-requires-2 : tie.Need-give-run-requires-2
 give-run-requires-2 c κs =
@@ -62,7 +62,7 @@ columns-around-requires-3 c κs =
     let s = c .before .before .before .before .before .before .before .before .before .before .before .before .before .before .before .before .before .before in
     let r = s .pre .0 in
     let low = span-low _ _ _ _ _ _ r in
-    (r .ready .column-in, r .ready .lawful .width-top, omega (arith, c .greater .ensures, low .0, low .1))
+    (r .ready .change .column-in, r .ready .change .lawful .width-top, omega (arith, c .greater .ensures, low .0, low .1))
 
 -- where the wider columns is made, and the call's start
 abbrev start : tie.After-columns-around3 → tie.Start
@@ -75,7 +75,7 @@ wide-in : (c : tie.After-columns-around3) → let a = start c .args in
 wide-in c =
     let s = start c in
     let e = c .columns-around3 .ensures in
-    (omega (arith, e .0, s .pre .0 .ready .column-in, row-low s), omega (arith, e .1, row-low s))
+    (omega (arith, e .0, s .pre .0 .ready .change .column-in, row-low s), omega (arith, e .1, row-low s))
 
 add-first : tie.Need-add-first
 add-first c = let made = c .before in omega (arith, wide-in made .0, places-low (start made))
