@@ -6,12 +6,15 @@ use plate::State;
 use plate::Totals;
 ghost use mathlib.Core.Path.{_≡_};
 ghost use Rattle.plate_model.specs.Layout.{sizeFrom};
-ghost use Rattle.plate_model.specs.Lent.{ask, inputs, lentAtEntry, lentAtExit, viewsAtEntry, viewsAtExit, canvasAtEntry, canvasAtExit};
+ghost use Rattle.plate_model.specs.Lent.{ask, inputs, lentAtEntry, lentAtExit, viewsAtEntry, viewsAtExit, canvasAtEntry};
+ghost use Rattle.plate_model.specs.Lent.{canvasAtExit};
 ghost use Rattle.plate_model.specs.Refusal.{returned};
 ghost use Rattle.plate_model.specs.Calls.{openCall, putCall, undoCall, fillCall, showCall};
 ghost use Rattle.plate_model.specs.Kept.{putKeptCall, undoKeptCall, showKeptCall};
 ghost use Rattle.plate_model.specs.Total.{totalCall};
-ghost use Rattle.lens_c.specs.Interface.{stateIn, lensIn, answerOut, leftOut, shownOut, leavesOut, showsOut, refreshedOut, leavesKeptOut, shownKeptOut, showsKeptOut, totalsOut, totalsAndScratch, totalledOut};
+ghost use Rattle.lens_c.specs.Interface.{stateIn, lensIn, answerOut, leftOut, shownOut, leavesOut, showsOut, refreshedOut};
+ghost use Rattle.lens_c.specs.Interface.{leavesKeptOut, shownKeptOut, showsKeptOut, totalsOut, totalsAndScratch};
+ghost use Rattle.lens_c.specs.Interface.{totalledOut};
 
 #[repr(C)]
 pub struct LensState {
@@ -92,7 +95,8 @@ pub extern "C" fn lens_open(
     pixels: &mut [u64],
     log: &mut [u64],
 ) -> LensAnswer
-    ensures { λ r. ⌜ leavesOut r (lentAtExit planes pixels log) ≡ leftOut (openCall (sizeFrom width height reach) (lentAtEntry planes pixels log)) ⌝ }
+    ensures { λ r. ⌜ leavesOut r (lentAtExit planes pixels log)
+        ≡ leftOut (openCall (sizeFrom width height reach) (lentAtEntry planes pixels log)) ⌝ }
 {
     answer_out(plate::open::open(width, height, reach, planes, pixels, log))
 }
@@ -110,7 +114,8 @@ pub extern "C" fn lens_put(
     pixels: &mut [u64],
     log: &mut [u64],
 ) -> LensAnswer
-    ensures { λ r. ⌜ leavesOut r (lentAtExit planes pixels log) ≡ leftOut (putCall (stateIn state) (ask x y value opacity shape radius) (lentAtEntry planes pixels log)) ⌝ }
+    ensures { λ r. ⌜ leavesOut r (lentAtExit planes pixels log)
+        ≡ leftOut (putCall (stateIn state) (ask x y value opacity shape radius) (lentAtEntry planes pixels log)) ⌝ }
 {
     answer_out(plate::put::put(
         state_in(state),
@@ -133,7 +138,8 @@ pub extern "C" fn lens_undo(
     pixels: &mut [u64],
     log: &mut [u64],
 ) -> LensAnswer
-    ensures { λ r. ⌜ leavesOut r (lentAtExit planes pixels log) ≡ leftOut (undoCall (stateIn state) (lentAtEntry planes pixels log)) ⌝ }
+    ensures { λ r. ⌜ leavesOut r (lentAtExit planes pixels log)
+        ≡ leftOut (undoCall (stateIn state) (lentAtEntry planes pixels log)) ⌝ }
 {
     answer_out(plate::undo::undo(state_in(state), planes, pixels, log))
 }
@@ -150,7 +156,11 @@ pub extern "C" fn lens_fill(
     pixels: &mut [u64],
     log: &mut [u64],
 ) -> LensAnswer
-    ensures { λ r. ⌜ leavesOut r (lentAtExit planes pixels log) ≡ leftOut (fillCall (stateIn state) (lensIn lens) shape (inputs (now (values .entry)) (now (opacities .entry)) (now (depths .entry))) (lentAtEntry planes pixels log)) ⌝ }
+    ensures { λ r. ⌜ leavesOut r (lentAtExit planes pixels log)
+        ≡ leftOut
+        (fillCall (stateIn state) (lensIn lens) shape
+        (inputs (now (values .entry)) (now (opacities .entry)) (now (depths .entry)))
+        (lentAtEntry planes pixels log)) ⌝ }
 {
     let through = Lens {
         opening: lens.opening,
@@ -179,7 +189,8 @@ pub extern "C" fn lens_show(
     values: &mut [u16],
     mattes: &mut [u8],
 ) -> LensAnswer
-    ensures { λ r. ⌜ showsOut r (viewsAtExit scratch values mattes) ≡ shownOut (showCall (stateIn state) (now (planes .entry)) (viewsAtEntry scratch values mattes)) ⌝ }
+    ensures { λ r. ⌜ showsOut r (viewsAtExit scratch values mattes)
+        ≡ shownOut (showCall (stateIn state) (now (planes .entry)) (viewsAtEntry scratch values mattes)) ⌝ }
 {
     answer_out(plate::show::show(state_in(state), planes, scratch, values, mattes))
 }
@@ -193,7 +204,9 @@ pub extern "C" fn lens_show_kept(
     mattes: &mut [u8],
     sums: &mut [u64],
 ) -> LensAnswer
-    ensures { λ r. ⌜ showsKeptOut r (viewsAtExit scratch values mattes) (now (sums .exit)) ≡ shownKeptOut (showKeptCall (stateIn state) (now (planes .entry)) (viewsAtEntry scratch values mattes) (now (sums .entry))) ⌝ }
+    ensures { λ r. ⌜ showsKeptOut r (viewsAtExit scratch values mattes) (now (sums .exit))
+        ≡ shownKeptOut
+        (showKeptCall (stateIn state) (now (planes .entry)) (viewsAtEntry scratch values mattes) (now (sums .entry))) ⌝ }
 {
     answer_out(plate::kept::show_kept(state_in(state), planes, scratch, values, mattes, sums))
 }
@@ -214,7 +227,10 @@ pub extern "C" fn lens_put_kept(
     values: &mut [u16],
     mattes: &mut [u8],
 ) -> LensAnswer
-    ensures { λ r. ⌜ leavesKeptOut r (lentAtExit planes pixels log) (canvasAtExit sums values mattes) ≡ refreshedOut (putKeptCall (stateIn state) (ask x y value opacity shape radius) (lentAtEntry planes pixels log) (canvasAtEntry sums values mattes)) ⌝ }
+    ensures { λ r. ⌜ leavesKeptOut r (lentAtExit planes pixels log) (canvasAtExit sums values mattes)
+        ≡ refreshedOut
+        (putKeptCall (stateIn state) (ask x y value opacity shape radius) (lentAtEntry planes pixels log)
+        (canvasAtEntry sums values mattes)) ⌝ }
 {
     answer_out(plate::kept::put_kept(
         state_in(state),
@@ -243,14 +259,16 @@ pub extern "C" fn lens_undo_kept(
     values: &mut [u16],
     mattes: &mut [u8],
 ) -> LensAnswer
-    ensures { λ r. ⌜ leavesKeptOut r (lentAtExit planes pixels log) (canvasAtExit sums values mattes) ≡ refreshedOut (undoKeptCall (stateIn state) (lentAtEntry planes pixels log) (canvasAtEntry sums values mattes)) ⌝ }
+    ensures { λ r. ⌜ leavesKeptOut r (lentAtExit planes pixels log) (canvasAtExit sums values mattes)
+        ≡ refreshedOut (undoKeptCall (stateIn state) (lentAtEntry planes pixels log) (canvasAtEntry sums values mattes)) ⌝ }
 {
     answer_out(plate::kept::undo_kept(state_in(state), planes, pixels, log, sums, values, mattes))
 }
 
 #[no_mangle]
 pub extern "C" fn lens_total(state: LensState, planes: &[u64], scratch: &mut [u64]) -> LensTotals
-    ensures { λ r. ⌜ totalsAndScratch r (now (scratch .exit)) ≡ totalledOut (totalCall (stateIn state) (now (planes .entry)) (now (scratch .entry))) ⌝ }
+    ensures { λ r. ⌜ totalsAndScratch r (now (scratch .exit))
+        ≡ totalledOut (totalCall (stateIn state) (now (planes .entry)) (now (scratch .entry))) ⌝ }
 {
     totals_out(plate::total::total(state_in(state), planes, scratch))
 }

@@ -21,7 +21,7 @@ use Rattle.plate_model.specs.Ready.{LawfulChange}
 use Rattle.plate.specs.Laying.{Amounts}
 use Rattle.plate.specs.Passes.{Written}
 pub use Rattle.plate.specs.declared.mend.Given.{Given}
-pub use Rattle.plate.specs.declared.mend.ColumnRange.{ColumnRange}
+pub use Rattle.plate.specs.declared.mend.CellRange.{CellRange}
 
 -- ONE CELL
 -- what a pixel gives the row at abs (dy) from it
@@ -74,14 +74,14 @@ levelAmounts g = record { light = g .value * givenAt g 0; matte = givenAt g 0 }
 abbrev pub RunAdded : ℕ → ℕ → ℕ → List ℕ → List ℕ → Type 0
 RunAdded first count by old new = Written 1 count (λ c. first) (λ c i. (getD old (first + i) 0 + by) % 2 ^ 64) old new
 
--- a columns of the row that starts at a place has its sums of light, and as many on those of matte
-pub record RunIn (n start : ℕ) (s : ColumnRange) (sums : List ℕ) : Type 0 where
+-- a range of the row that starts at a place has its sums of light, and as many on those of matte
+pub record RunIn (n start : ℕ) (s : CellRange) (sums : List ℕ) : Type 0 where
   pub from-in : start + s .first ≤ n
   pub past-in : start + s .past ≤ n
   pub sums-are : length sums ≡ 2 * n
 
 -- what a pixel gives is added to both, and nothing else is changed
-pub record RunGiven (n start : ℕ) (s : ColumnRange) (by : Amounts) (old new : List ℕ) : Type 0 where
+pub record RunGiven (n start : ℕ) (s : CellRange) (by : Amounts) (old new : List ℕ) : Type 0 where
   pub same : length new ≡ length old
   pub light-in : (x : ℕ) → s .first ≤ x → x < s .past → getD new (start + x) 0 ≡ (getD old (start + x) 0 + by .light) % 2 ^ 64
   pub matte-in : (x : ℕ) → s .first ≤ x → x < s .past

@@ -292,10 +292,14 @@ pub record SummedTo (channel : Channel) (planes scratch : List ℕ) (row : ℕ) 
   pub second : (x : ℕ) → x < channel .columns
       → getD scratch (channel .sums + channel .columns + x) 0
       ≡ sum (across (add (planesIn channel planes secondBox) (down (across (planesIn channel planes thirdBox)))) x) row % 2 ^ 64
-  pub falling-one : FallingLines 1 (channel .columns) (channel .high) (fallingOneAt channel) (planesIn channel planes fallOne) scratch row
-  pub falling-two : FallingLines 2 (channel .columns) (channel .high) (fallingTwoAt channel) (planesIn channel planes fallTwo) scratch row
-  pub rising-one : RisingLines 1 (channel .columns) (channel .high) (risingOneAt channel) (planesIn channel planes riseOne) scratch row
-  pub rising-two : RisingLines 2 (channel .columns) (channel .high) (risingTwoAt channel) (planesIn channel planes riseTwo) scratch row
+  pub falling-one : FallingLines 1 (channel .columns) (channel .high) (fallingOneAt channel)
+      (planesIn channel planes fallOne) scratch row
+  pub falling-two : FallingLines 2 (channel .columns) (channel .high) (fallingTwoAt channel)
+      (planesIn channel planes fallTwo) scratch row
+  pub rising-one : RisingLines 1 (channel .columns) (channel .high) (risingOneAt channel)
+      (planesIn channel planes riseOne) scratch row
+  pub rising-two : RisingLines 2 (channel .columns) (channel .high) (risingTwoAt channel)
+      (planesIn channel planes riseTwo) scratch row
   pub finished : (x : ℕ) → x < channel .columns
       → getD scratch (downFrom channel + x) 0 ≡ sum (slopeSums (planesIn channel planes) x) row % 2 ^ 64
 

@@ -60,7 +60,8 @@ pub record RowIn (scratch values mattes : List ℕ) (light matte first width : �
 
 -- it shows them
 pub record RowShown (scratch : List ℕ) (light matte first width : ℕ) (values₀ values mattes₀ mattes : List ℕ) : Type 0 where
-  pub in-values : Written 1 width (λ c. first) (λ c x. shownValue (getD scratch (light + x) 0) (getD scratch (matte + x) 0)) values₀ values
+  pub in-values : Written 1 width (λ c. first)
+      (λ c x. shownValue (getD scratch (light + x) 0) (getD scratch (matte + x) 0)) values₀ values
   pub in-mattes : Written 1 width (λ c. first) (λ c x. shownMatte (getD scratch (matte + x) 0)) mattes₀ mattes
 
 -- the rows of both above the image are summed; it ends at the last column summed, and its rows are in the planes
@@ -79,7 +80,8 @@ sumIn channel image planes x y = finish (planesIn channel planes) (image .first 
 -- its first rows are shown
 pub record ShownTo (light : Channel) (image : Image) (planes values mattes : List ℕ) (rows : ℕ) : Type 0 where
   pub in-values : (x y : ℕ) → x < image .width → y < rows
-      → getD values (y * image .width + x) 0 ≡ shownValue (sumIn light image planes x y) (sumIn (matteAfter light) image planes x y)
+      → getD values (y * image .width + x) 0
+      ≡ shownValue (sumIn light image planes x y) (sumIn (matteAfter light) image planes x y)
   pub in-mattes : (x y : ℕ) → x < image .width → y < rows
       → getD mattes (y * image .width + x) 0 ≡ shownMatte (sumIn (matteAfter light) image planes x y)
 

@@ -56,7 +56,9 @@ pub(crate) fn read_put(
 // What an undo is to change, by the length of the planes, the pixels and the log: the pixel of the last entry is to come back to
 // its place.
 pub(crate) fn read_undo(state: State, planes: usize, pixels: &[u64], log: &[u64]) -> ChangeRead
-    ensures { λ r. ⌜ r ≡ undoRead state (lentLengths planes (length (now (pixels .entry))) (length (now (log .entry)))) (now (pixels .entry)) (now (log .entry)) ⌝ }
+    ensures { λ r. ⌜ r
+        ≡ undoRead state (lentLengths planes (length (now (pixels .entry))) (length (now (log .entry)))) (now (pixels .entry))
+        (now (log .entry)) ⌝ }
 {
     let lengths = LentLengths {
         planes: planes,

@@ -42,7 +42,8 @@ fn exchange_marks(planes: &mut [u64], size: Size, change: Change)
 pub(crate) fn exchange(size: Size, change: Change, planes: &mut [u64], pixels: &mut [u64]) -> u32
     requires { ⌜ Changeable size change (length (now planes)) ⌝ }
     requires { ⌜ change .place < length (now pixels) ⌝ }
-    ensures { λ r. ⌜ Changed size change (now (planes .entry)) (now (pixels .entry)) r (now (planes .exit)) (now (pixels .exit)) ⌝ }
+    ensures { λ r. ⌜ Changed size change (now (planes .entry)) (now (pixels .entry)) r (now (planes .exit))
+        (now (pixels .exit)) ⌝ }
 {
     exchange_marks(planes, size, change);
     let place = change.place;

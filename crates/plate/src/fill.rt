@@ -23,7 +23,9 @@ pub fn fill(
     pixels: &mut [u64],
     log: &mut [u64],
 ) -> Answer
-    ensures { λ r. ⌜ leaves r (lentAtExit planes pixels log) ≡ fillCall state lens shape (inputs (now (values .entry)) (now (opacities .entry)) (now (depths .entry))) (lentAtEntry planes pixels log) ⌝ }
+    ensures { λ r. ⌜ leaves r (lentAtExit planes pixels log)
+        ≡ fillCall state lens shape (inputs (now (values .entry)) (now (opacities .entry)) (now (depths .entry)))
+        (lentAtEntry planes pixels log) ⌝ }
 {
     let lengths = LentLengths {
         planes: planes.len(),

@@ -85,7 +85,8 @@ fn keep_all(
     sums: &mut [u64],
 )
     requires { ⌜ ShowKeptReady (state .size) (now planes) (now scratch) (now values) (now mattes) (now sums) ⌝ }
-    ensures { λ _. ⌜ ShowKeptDone state (now (planes .entry)) (viewsAtEntry scratch values mattes) (viewsAtExit scratch values mattes) (now (sums .entry)) (now (sums .exit)) ⌝ }
+    ensures { λ _. ⌜ ShowKeptDone state (now (planes .entry)) (viewsAtEntry scratch values mattes)
+        (viewsAtExit scratch values mattes) (now (sums .entry)) (now (sums .exit)) ⌝ }
 {
     let size = state.size;
     let light = light_channel(size);
@@ -110,7 +111,8 @@ pub fn show_kept(
     mattes: &mut [u8],
     sums: &mut [u64],
 ) -> Answer
-    ensures { λ r. ⌜ showsKept r (viewsAtExit scratch values mattes) (now (sums .exit)) ≡ showKeptCall state (now (planes .entry)) (viewsAtEntry scratch values mattes) (now (sums .entry)) ⌝ }
+    ensures { λ r. ⌜ showsKept r (viewsAtExit scratch values mattes) (now (sums .exit))
+        ≡ showKeptCall state (now (planes .entry)) (viewsAtEntry scratch values mattes) (now (sums .entry)) ⌝ }
 {
     let outcome = check_show_kept(
         state,
@@ -151,7 +153,9 @@ pub fn put_kept(
     values: &mut [u16],
     mattes: &mut [u8],
 ) -> Answer
-    ensures { λ r. ⌜ leavesKept r (lentAtExit planes pixels log) (canvasAtExit sums values mattes) ≡ putKeptCall state (ask x y value opacity shape radius) (lentAtEntry planes pixels log) (canvasAtEntry sums values mattes) ⌝ }
+    ensures { λ r. ⌜ leavesKept r (lentAtExit planes pixels log) (canvasAtExit sums values mattes)
+        ≡ putKeptCall state (ask x y value opacity shape radius) (lentAtEntry planes pixels log)
+        (canvasAtEntry sums values mattes) ⌝ }
 {
     let size = state.size;
     let checked = check_kept(size, sums.len(), values.len(), mattes.len());
@@ -178,7 +182,8 @@ pub fn undo_kept(
     values: &mut [u16],
     mattes: &mut [u8],
 ) -> Answer
-    ensures { λ r. ⌜ leavesKept r (lentAtExit planes pixels log) (canvasAtExit sums values mattes) ≡ undoKeptCall state (lentAtEntry planes pixels log) (canvasAtEntry sums values mattes) ⌝ }
+    ensures { λ r. ⌜ leavesKept r (lentAtExit planes pixels log) (canvasAtExit sums values mattes)
+        ≡ undoKeptCall state (lentAtEntry planes pixels log) (canvasAtEntry sums values mattes) ⌝ }
 {
     let size = state.size;
     let checked = check_kept(size, sums.len(), values.len(), mattes.len());

@@ -21,7 +21,9 @@ ghost use Rattle.kernels_model.specs.Mark.{minus, boxGrid, scaled};
 ghost use Rattle.kernels_model.specs.Drawing.{pieceMarks, drawnMarks};
 ghost use Rattle.plate_model.specs.Fixed.{planesInAll};
 ghost use Rattle.plate_model.specs.Marks.{layAll};
-ghost use Rattle.plate.specs.Laying.{Amounts, times, amountsOf, spot, layAmounts, layDrawn, factor, levelMarks, columnMarks, ColumnIn, FewBoxes, MarksFit, Placed, PixelReady, ownMarks, originOf, cornerOf, marksAt};
+ghost use Rattle.plate.specs.Laying.{Amounts, times, amountsOf, spot, layAmounts, layDrawn, factor, levelMarks};
+ghost use Rattle.plate.specs.Laying.{columnMarks, ColumnIn, FewBoxes, MarksFit, Placed, PixelReady, ownMarks, originOf};
+ghost use Rattle.plate.specs.Laying.{cornerOf, marksAt};
 
 // What a mark of coefficient 1 adds in light and in matte. Both wrap: to take a kernel off is to lay what wraps to its opposite.
 pub struct Amounts {
@@ -91,7 +93,8 @@ fn lay_piece(
     end: Amounts,
 )
     requires { ⌜ MarksFit g (length (now planes)) (pieceMarks plane x0 y0 x1 y1 1 1) ⌝ }
-    ensures { λ _. ⌜ ((w : Amounts) (c d : ℕ) → start ≡ times w c → end ≡ times w d → now (planes .exit) ≡ layDrawn g w (now (planes .entry)) (pieceMarks plane x0 y0 x1 y1 c d)) ⌝ }
+    ensures { λ _. ⌜ ((w : Amounts) (c d : ℕ) → start ≡ times w c → end ≡ times w d → now (planes .exit)
+        ≡ layDrawn g w (now (planes .entry)) (pieceMarks plane x0 y0 x1 y1 c d)) ⌝ }
 {
     lay_mark(planes, g, plane, x0, y0, start);
     lay_mark(planes, g, plane, x1, y1, end);
@@ -100,7 +103,8 @@ fn lay_piece(
 // The level piece of a line, where there is one.
 fn lay_level(planes: &mut [u64], g: Origin, o: Outline, l: Line, start: Amounts, end: Amounts)
     requires { ⌜ MarksFit g (length (now planes)) (levelMarks 1 1 o l) ⌝ }
-    ensures { λ _. ⌜ ((w : Amounts) (c d : ℕ) → start ≡ times w c → end ≡ times w d → now (planes .exit) ≡ layDrawn g w (now (planes .entry)) (levelMarks c d o l)) ⌝ }
+    ensures { λ _. ⌜ ((w : Amounts) (c d : ℕ) → start ≡ times w c → end ≡ times w d → now (planes .exit)
+        ≡ layDrawn g w (now (planes .entry)) (levelMarks c d o l)) ⌝ }
 {
     if !o.flat {
         return;
@@ -178,7 +182,8 @@ fn factored(w: Amounts, boxes: usize, i: usize) -> Amounts
 // A column of the grid of two or three boxes.
 fn lay_column(planes: &mut [u64], g: Origin, b: Boxes, x: usize, w: Amounts)
     requires { ⌜ ColumnIn g b x (length (now planes)) ⌝ }
-    ensures { λ _. ⌜ ((v : Amounts) (c : ℕ) → w ≡ times v c → now (planes .exit) ≡ layDrawn g v (now (planes .entry)) (columnMarks b x c)) ⌝ }
+    ensures { λ _. ⌜ ((v : Amounts) (c : ℕ) → w ≡ times v c → now (planes .exit)
+        ≡ layDrawn g v (now (planes .entry)) (columnMarks b x c)) ⌝ }
 {
     for j in 0..b.count + 1 {
         lay_mark(

@@ -32,7 +32,8 @@ ghost use Rattle.plate_model.specs.declared.state.Outcome.the-variants.{Accepte
 ghost use Rattle.plate_model.specs.Listed.{zeros};
 ghost use Rattle.plate_model.specs.Calls.{answerOf};
 ghost use Rattle.plate_model.specs.Table.{LawfulSize};
-ghost use Rattle.plate.specs.Filling.{layerOf, inputsRead, layerRead, layerSize, pixelFrom, Layable, GivenAt, Ready, FilledOne, FilledTo, FilledRow, Refilled};
+ghost use Rattle.plate.specs.Filling.{layerOf, inputsRead, layerRead, layerSize, pixelFrom, Layable, GivenAt, Ready};
+ghost use Rattle.plate.specs.Filling.{FilledOne, FilledTo, FilledRow, Refilled};
 
 // What all pixels of a fill share, made once: the plate's frame, the lens, the shape and its largest radius there.
 pub struct Layer {
@@ -66,7 +67,8 @@ fn layer_of(size: Size, lens: Lens, shape: Shape) -> Layer
 // 5, 6, 11, 12 and 17: what a fill checks once its lengths are right. Depth 0 is infinity, and not inside the lens.
 fn read_inputs(size: Size, lens: Lens, shape: u8, values: &[u16], depths: &[u32]) -> LayerRead
     requires { ⌜ LawfulSize size × (length (now values) ≡ places size) × (length (now depths) ≡ places size) ⌝ }
-    ensures { λ r. ⌜ ((opacities : List ℕ) → r ≡ inputsRead size lens shape (inputs (now (values .entry)) opacities (now (depths .entry)))) ⌝ }
+    ensures { λ r. ⌜ ((opacities : List ℕ) → r
+        ≡ inputsRead size lens shape (inputs (now (values .entry)) opacities (now (depths .entry)))) ⌝ }
 {
     if value_above(values, size) {
         return LayerRead::NoFill(Refusal::Value);
@@ -96,7 +98,8 @@ pub(crate) fn read_layer(
     opacities: usize,
     depths: &[u32],
 ) -> LayerRead
-    ensures { λ r. ⌜ ((given : List ℕ) → length given ≡ opacities → r ≡ layerRead state lens shape (inputs (now (values .entry)) given (now (depths .entry))) lent) ⌝ }
+    ensures { λ r. ⌜ ((given : List ℕ) → length given ≡ opacities → r
+        ≡ layerRead state lens shape (inputs (now (values .entry)) given (now (depths .entry))) lent) ⌝ }
 {
     let check = check_fill(state, lent, values.len(), opacities, depths.len());
     if let Outcome::Refused(why) = check {
@@ -147,8 +150,10 @@ fn fill_row(
     opacities: &[u8],
     depths: &[u32],
 )
-    requires { ⌜ Ready layer (length (now planes)) (length (now pixels)) (inputs (now values) (now opacities) (now depths)) × (now table ≡ shareTable) × (y < layerSize layer .height) ⌝ }
-    ensures { λ _. ⌜ FilledRow layer (inputs (now (values .entry)) (now (opacities .entry)) (now (depths .entry))) y (now (planes .entry)) (now (pixels .entry)) (now (planes .exit)) (now (pixels .exit)) ⌝ }
+    requires { ⌜ Ready layer (length (now planes)) (length (now pixels)) (inputs (now values) (now opacities) (now depths))
+        × (now table ≡ shareTable) × (y < layerSize layer .height) ⌝ }
+    ensures { λ _. ⌜ FilledRow layer (inputs (now (values .entry)) (now (opacities .entry)) (now (depths .entry))) y
+        (now (planes .entry)) (now (pixels .entry)) (now (planes .exit)) (now (pixels .exit)) ⌝ }
 {
     let width = layer.frame.size.width;
     let start = y * width;
@@ -178,8 +183,10 @@ fn fill_rows(
     opacities: &[u8],
     depths: &[u32],
 )
-    requires { ⌜ Ready layer (length (now planes)) (length (now pixels)) (inputs (now values) (now opacities) (now depths)) × (now table ≡ shareTable) ⌝ }
-    ensures { λ _. ⌜ FilledTo layer (inputs (now (values .entry)) (now (opacities .entry)) (now (depths .entry))) (now (planes .entry)) (now (planes .exit)) (now (pixels .exit)) (places (layerSize layer)) ⌝ }
+    requires { ⌜ Ready layer (length (now planes)) (length (now pixels)) (inputs (now values) (now opacities) (now depths))
+        × (now table ≡ shareTable) ⌝ }
+    ensures { λ _. ⌜ FilledTo layer (inputs (now (values .entry)) (now (opacities .entry)) (now (depths .entry)))
+        (now (planes .entry)) (now (planes .exit)) (now (pixels .exit)) (places (layerSize layer)) ⌝ }
 {
     let height = layer.frame.size.height;
     for y in 0..height {
@@ -209,7 +216,8 @@ pub(crate) fn refill(
 ) -> Answer
     requires { ⌜ Ready layer (length (now planes)) (length (now pixels)) (inputs (now values) (now opacities) (now depths)) ⌝ }
     ensures { λ r. ⌜ r ≡ answerOf Accepted 0 (stateOf (layerSize layer) 0) ⌝ }
-    ensures { λ _. ⌜ Refilled layer (inputs (now (values .entry)) (now (opacities .entry)) (now (depths .entry))) (length (now (planes .entry))) (length (now (log .entry))) (now (planes .exit)) (now (pixels .exit)) (now (log .exit)) ⌝ }
+    ensures { λ _. ⌜ Refilled layer (inputs (now (values .entry)) (now (opacities .entry)) (now (depths .entry)))
+        (length (now (planes .entry))) (length (now (log .entry))) (now (planes .exit)) (now (pixels .exit)) (now (log .exit)) ⌝ }
 {
     clear_both(planes, log);
     let table = kernels::share::shares();

@@ -26,7 +26,8 @@ ghost use Rattle.kernels_model.specs.Band.{isLevel};
 ghost use Rattle.plate_model.specs.Fixed.{sideTop};
 ghost use Rattle.plate_model.specs.Lent.{canvas, canvasAtEntry, canvasAtExit};
 ghost use Rattle.plate_model.specs.Kept.{mended};
-ghost use Rattle.plate.specs.Mending.{GivenIn, GivesFew, CellIn, CellDone, levelAmounts, RunAdded, RunIn, RunGiven, MendReady, SharesOf, RowToMend, InRow, MendedWhere};
+ghost use Rattle.plate.specs.Mending.{GivenIn, GivesFew, CellIn, CellDone, levelAmounts, RunAdded, RunIn, RunGiven};
+ghost use Rattle.plate.specs.Mending.{MendReady, SharesOf, RowToMend, InRow, MendedWhere};
 
 // What a pixel gives the cells of one row: its value and its opacity, and its kernel's row.
 pub struct Given {
@@ -36,7 +37,7 @@ pub struct Given {
 }
 
 // Cells of a line one after the other: from `first` on, up to the one before `past`.
-pub struct ColumnRange {
+pub struct CellRange {
     pub first: usize,
     pub past: usize,
 }
@@ -62,19 +63,19 @@ fn greater(a: usize, b: usize) -> usize
 }
 
 // The cells of a line of `end` cells that are less than `span` from the one at `at`.
-fn columns_around(at: usize, span: usize, end: usize) -> ColumnRange
+fn cells_around(at: usize, span: usize, end: usize) -> CellRange
     requires { ⌜ (at < end) × (end ≤ sideTop) × (span ≤ sideTop) ⌝ }
     ensures { λ r. ⌜ (r .first ≡ at + 1 - span) × (r .past ≡ min (at + span) end) ⌝ }
 {
     let first = less(at + 1, span);
     let past = at + span;
     if past < end {
-        return ColumnRange {
+        return CellRange {
             first: first,
             past: past,
         };
     }
-    ColumnRange {
+    CellRange {
         first: first,
         past: end,
     }
@@ -140,11 +141,12 @@ fn mend_cells(
     row: usize,
 )
     requires { ⌜ RowToMend size change row old new (canvas (now sums) (now values) (now mattes)) ⌝ }
-    ensures { λ _. ⌜ MendedWhere size change (InRow size change row) (canvasAtEntry sums values mattes) (canvasAtExit sums values mattes) ⌝ }
+    ensures { λ _. ⌜ MendedWhere size change (InRow size change row) (canvasAtEntry sums values mattes)
+        (canvasAtExit sums values mattes) ⌝ }
 {
     let places = size.width * size.height;
     let span = greater(old.band.span, new.band.span);
-    let columns = columns_around(change.x, span, size.width);
+    let columns = cells_around(change.x, span, size.width);
     let first = columns.first;
     let past = columns.past;
     for column in first..past {
@@ -176,8 +178,8 @@ fn add_run(sums: &mut [u64], first: usize, count: usize, by: u64)
     }
 }
 
-// What a pixel gives a columns of the row that starts at `start`, in light and in matte.
-fn give_run(sums: &mut [u64], places: usize, start: usize, columns: ColumnRange, by: Amounts)
+// What a pixel gives a range of the row that starts at `start`, in light and in matte.
+fn give_run(sums: &mut [u64], places: usize, start: usize, columns: CellRange, by: Amounts)
     requires { ⌜ RunIn places start columns (now sums) ⌝ }
     ensures { λ _. ⌜ RunGiven places start columns by (now (sums .entry)) (now (sums .exit)) ⌝ }
 {
@@ -187,8 +189,8 @@ fn give_run(sums: &mut [u64], places: usize, start: usize, columns: ColumnRange,
     add_run(sums, places + first, count, by.matte);
 }
 
-// The cells of one row that a kernel reaches, where both kernels' rows are level: the old one's run of sums, the new one's, and then
-// the pictures of the wider of them, so that the divisions do not wait for sums that come from memory.
+// The cells of one row that a kernel reaches, where both kernels' rows are level: the old one's run of sums, the new one's, and
+// then the pictures of the wider of them, so that the divisions do not wait for sums that come from memory.
 fn mend_runs(
     sums: &mut [u64],
     values: &mut [u16],
@@ -201,18 +203,19 @@ fn mend_runs(
 )
     requires { ⌜ RowToMend size change row old new (canvas (now sums) (now values) (now mattes)) ⌝ }
     requires { ⌜ (isLevel (old .band) ≡ true) × (isLevel (new .band) ≡ true) ⌝ }
-    ensures { λ _. ⌜ MendedWhere size change (InRow size change row) (canvasAtEntry sums values mattes) (canvasAtExit sums values mattes) ⌝ }
+    ensures { λ _. ⌜ MendedWhere size change (InRow size change row) (canvasAtEntry sums values mattes)
+        (canvasAtExit sums values mattes) ⌝ }
 {
     let width = size.width;
     let places = width * size.height;
     let start = row * width;
     let x = change.x;
-    let old_run = columns_around(x, old.band.span, width);
-    let new_run = columns_around(x, new.band.span, width);
+    let old_run = cells_around(x, old.band.span, width);
+    let new_run = cells_around(x, new.band.span, width);
     give_run(sums, places, start, old_run, opposite(level_amounts(old)));
     give_run(sums, places, start, new_run, level_amounts(new));
     let span = greater(old.band.span, new.band.span);
-    let columns = columns_around(x, span, width);
+    let columns = cells_around(x, span, width);
     let first = start + columns.first;
     let count = less(columns.past, columns.first);
     round_row(values, mattes, sums, first, places + first, first, count);
@@ -232,7 +235,8 @@ fn mend_row(
     requires { ⌜ MendReady size change (canvas (now sums) (now values) (now mattes)) ⌝ }
     requires { ⌜ SharesOf change «old_share» «new_share» ⌝ }
     requires { ⌜ row < size .height ⌝ }
-    ensures { λ _. ⌜ MendedWhere size change (InRow size change row) (canvasAtEntry sums values mattes) (canvasAtExit sums values mattes) ⌝ }
+    ensures { λ _. ⌜ MendedWhere size change (InRow size change row) (canvasAtEntry sums values mattes)
+        (canvasAtExit sums values mattes) ⌝ }
 {
     let dy = distance(row, change.y);
     let old = given_row(change.old, old_share, dy);
@@ -265,7 +269,7 @@ pub(crate) fn mend(
     let new_share = kernels::share::share_of(new_shape, new.radius);
     let old_reach = kernels::shape::reach(old_shape, old.radius);
     let new_reach = kernels::shape::reach(new_shape, new.radius);
-    let rows = columns_around(change.y, greater(old_reach, new_reach) + 1, size.height);
+    let rows = cells_around(change.y, greater(old_reach, new_reach) + 1, size.height);
     let first = rows.first;
     let past = rows.past;
     for row in first..past {

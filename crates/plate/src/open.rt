@@ -22,7 +22,8 @@ pub fn open(
     pixels: &mut [u64],
     log: &mut [u64],
 ) -> Answer
-    ensures { λ r. ⌜ leaves r (lentAtExit planes pixels log) ≡ openCall (sizeFrom width height reach) (lentAtEntry planes pixels log) ⌝ }
+    ensures { λ r. ⌜ leaves r (lentAtExit planes pixels log)
+        ≡ openCall (sizeFrom width height reach) (lentAtEntry planes pixels log) ⌝ }
 {
     let size = Size {
         width: width,

@@ -11,7 +11,8 @@ use std::num::wrapping_sub_u64;
 ghost use mathlib.Core.Path.{_≡_};
 ghost use Prim.Native.Nat.{_+_, _%_, _^_, _<_};
 ghost use lib.ListN.{length};
-ghost use Rattle.plate.specs.Passes.{sumsEnd, marksEnd, startsAt, matteAfter, Added, LinesIn, MarksOn, MarksOff, BoxesIn, BoxesMet, InOrder, RowSummed, RowLaid, ChannelIn, RowReady, Summed};
+ghost use Rattle.plate.specs.Passes.{sumsEnd, marksEnd, startsAt, matteAfter, Added, LinesIn, MarksOn, MarksOff, BoxesIn};
+ghost use Rattle.plate.specs.Passes.{BoxesMet, InOrder, RowSummed, RowLaid, ChannelIn, RowReady, Summed};
 
 // The planes of the slopes −2, −1, 1 and 2. A line of a slope below 0 rises to the right.
 const RISE_TWO: usize = LEVEL - 2;
@@ -123,7 +124,8 @@ fn add_marks(
     mark_two: usize,
 ) -> u64
     requires { ⌜ LinesIn one two «mark_one» «mark_two» (length (now scratch)) (length (now planes)) ⌝ }
-    ensures { λ r. ⌜ MarksOn (now (planes .entry)) (now (scratch .entry)) (now (scratch .exit)) one two «mark_one» «mark_two» r ⌝ }
+    ensures { λ r. ⌜ MarksOn (now (planes .entry)) (now (scratch .entry))
+        (now (scratch .exit)) one two «mark_one» «mark_two» r ⌝ }
 {
     let sum_one = wrapping_add_u64(scratch[one], planes[mark_one]);
     let sum_two = wrapping_add_u64(scratch[two], planes[mark_two]);
@@ -142,7 +144,8 @@ fn take_marks_off(
     mark_two: usize,
 ) -> u64
     requires { ⌜ LinesIn one two «mark_one» «mark_two» (length (now scratch)) (length (now planes)) ⌝ }
-    ensures { λ r. ⌜ MarksOff (now (planes .entry)) (now (scratch .entry)) (now (scratch .exit)) one two «mark_one» «mark_two» r ⌝ }
+    ensures { λ r. ⌜ MarksOff (now (planes .entry)) (now (scratch .entry))
+        (now (scratch .exit)) one two «mark_one» «mark_two» r ⌝ }
 {
     let held_one = scratch[one];
     let held_two = scratch[two];
@@ -162,7 +165,8 @@ fn add_boxes(
     sums: Across,
 ) -> Across
     requires { ⌜ BoxesIn third second mark apart (length (now scratch)) (length (now planes)) ⌝ }
-    ensures { λ r. ⌜ BoxesMet (now (planes .entry)) (now (scratch .entry)) (now (scratch .exit)) third second mark apart sums r ⌝ }
+    ensures { λ r. ⌜ BoxesMet (now (planes .entry)) (now (scratch .entry))
+        (now (scratch .exit)) third second mark apart sums r ⌝ }
 {
     let third_across = wrapping_add_u64(sums.third, planes[mark + THIRD_BOX * apart]);
     let third_down = add_to(scratch, third, third_across);

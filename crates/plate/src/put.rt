@@ -78,7 +78,8 @@ pub fn put(
     pixels: &mut [u64],
     log: &mut [u64],
 ) -> Answer
-    ensures { λ r. ⌜ leaves r (lentAtExit planes pixels log) ≡ putCall state (ask x y value opacity shape radius) (lentAtEntry planes pixels log) ⌝ }
+    ensures { λ r. ⌜ leaves r (lentAtExit planes pixels log)
+        ≡ putCall state (ask x y value opacity shape radius) (lentAtEntry planes pixels log) ⌝ }
 {
     let pixel = asked(x, y, value, opacity, shape, radius);
     put_asked(state, pixel, planes, pixels, log)

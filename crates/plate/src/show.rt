@@ -19,7 +19,8 @@ ghost use Prim.Native.Nat.{_+_};
 ghost use Rattle.plate_model.specs.Lent.{viewsAtEntry, viewsAtExit};
 ghost use Rattle.plate_model.specs.Calls.{showCall, shows};
 ghost use Rattle.plate_model.specs.Table.{LawfulSize};
-ghost use Rattle.plate.specs.Showing.{lightChannel, BothIn, AboveReady, BothReady, BothSummed, RowIn, RowShown, ImageReady, ShownTo, ShowReady, ShowDone};
+ghost use Rattle.plate.specs.Showing.{lightChannel, BothIn, AboveReady, BothReady, BothSummed, RowIn, RowShown, ImageReady};
+ghost use Rattle.plate.specs.Showing.{ShownTo, ShowReady, ShowDone};
 
 // The image in a padded plane: its first column, which is its first row as well, and its sizes.
 pub(crate) struct Image {
@@ -85,7 +86,8 @@ pub(crate) fn round_row(
     width: usize,
 )
     requires { ⌜ RowIn (now scratch) (now values) (now mattes) light matte first width ⌝ }
-    ensures { λ _. ⌜ RowShown (now (scratch .entry)) light matte first width (now (values .entry)) (now (values .exit)) (now (mattes .entry)) (now (mattes .exit)) ⌝ }
+    ensures { λ _. ⌜ RowShown (now (scratch .entry)) light matte first width (now (values .entry)) (now (values .exit))
+        (now (mattes .entry)) (now (mattes .exit)) ⌝ }
 {
     for x in 0..width {
         let place = first + x;
@@ -137,7 +139,8 @@ fn show_all(
     mattes: &mut [u8],
 )
     requires { ⌜ ShowReady (state .size) (now planes) (now scratch) (now values) (now mattes) ⌝ }
-    ensures { λ _. ⌜ ShowDone state (now (planes .entry)) (viewsAtEntry scratch values mattes) (viewsAtExit scratch values mattes) ⌝ }
+    ensures { λ _. ⌜ ShowDone state (now (planes .entry)) (viewsAtEntry scratch values mattes)
+        (viewsAtExit scratch values mattes) ⌝ }
 {
     let size = state.size;
     let light = light_channel(size);
@@ -159,7 +162,8 @@ pub fn show(
     values: &mut [u16],
     mattes: &mut [u8],
 ) -> Answer
-    ensures { λ r. ⌜ shows r (viewsAtExit scratch values mattes) ≡ showCall state (now (planes .entry)) (viewsAtEntry scratch values mattes) ⌝ }
+    ensures { λ r. ⌜ shows r (viewsAtExit scratch values mattes)
+        ≡ showCall state (now (planes .entry)) (viewsAtEntry scratch values mattes) ⌝ }
 {
     let outcome = check_show(
         state,

@@ -37,7 +37,8 @@ fn add_cells(cells: &[u64], first: usize, count: usize, to: u64) -> u64
 // All finished cells of the channel whose marks start at `marks`, added up row by row, to the last one.
 fn add_up(scratch: &mut [u64], planes: &[u64], frame: Frame, marks: usize) -> u64
     requires { ⌜ ChannelIn (wholeChannel frame marks) (now scratch) (now planes) ⌝ }
-    ensures { λ r. ⌜ AddedUp (wholeChannel frame marks) (now (planes .entry)) (now (scratch .entry)) (now (scratch .exit)) (frame .high) r ⌝ }
+    ensures { λ r. ⌜ AddedUp (wholeChannel frame marks) (now (planes .entry)) (now (scratch .entry)) (now (scratch .exit))
+        (frame .high) r ⌝ }
 {
     let columns = frame.wide;
     let high = frame.high;

@@ -12,7 +12,8 @@ use Rattle.plate_model.specs.Layout.{Size, sizeFrom, wide, high, cell, p
 use Rattle.plate_model.specs.Lent.{State, stateOf, Lent, lent, lengthsOf, Ask, Inputs, Views, views}
 use Rattle.plate_model.specs.Word.{wordOf, loggedAs}
 use Rattle.plate_model.specs.Kernel.{markCount}
-use Rattle.plate_model.specs.Refusal.{Answer, Returned, returned, Refusal, Outcome, Accepted, Refused, openCheck, fillCheck, showCheck}
+use Rattle.plate_model.specs.Refusal.{Answer, Returned, returned, Refusal, Outcome, Accepted, Refused, openCheck, fillCheck}
+use Rattle.plate_model.specs.Refusal.{showCheck}
 use Rattle.plate_model.specs.Asked.{knownShape, filled}
 use Rattle.plate_model.specs.Change.{Change, ChangeRead, ToChange, NoChange, putRead, undoRead}
 use Rattle.plate_model.specs.Listed.{zeros, listTo}

@@ -32,7 +32,8 @@ hasTap z p j i = not (eqb (tapAt z p j i) 0)
 unfoldable pub inReach : Size → Change → ℕ → Bool
 inReach z c i = hasTap z (c .old) (c .place) i || hasTap z (c .new) (c .place) i
 
--- "The put and the undo also mend, in buffer and pictures, only the cells" in reach: cell by cell what is mended and what was kept
+-- "The put and the undo also mend, in buffer and pictures, only the cells" in reach: cell by cell what is mended and what was
+-- kept
 unfoldable pub inReachOr : Size → Change → (ℕ → ℕ) → (ℕ → ℕ) → ℕ → ℕ
 inReachOr z c mended kept i = pick (inReach z c i) (mended i) (kept i)
 

@@ -13,7 +13,8 @@ use Rattle.plate_model.specs.Listed.{zeros}
 use Rattle.plate_model.specs.Calls.{Left, Shown, shown, answerOf, openCall, putCall, undoCall, fillCall, showCall}
 use Rattle.plate_model.specs.Kept.{putKeptCall, undoKeptCall, showKeptCall}
 use Rattle.plate_model.specs.Plain.{plainValues, plainMattes, gridCell}
-use Rattle.plate_model.specs.Notebook.{Book, openBook, both, Report, plain, BookLeft, bookPut, bookUndo, bookFill, bookShow, bookPutKept, bookUndoKept, bookShowKept, logOf}
+use Rattle.plate_model.specs.Notebook.{Book, openBook, both, Report, plain, BookLeft, bookPut, bookUndo, bookFill, bookShow}
+use Rattle.plate_model.specs.Notebook.{bookPutKept, bookUndoKept, bookShowKept, logOf}
 
 -- "Opacity and radius come as bytes."
 pub record Byte : Type 0 where

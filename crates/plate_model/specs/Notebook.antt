@@ -7,7 +7,8 @@ use Rattle.kernels_model.specs.declared.lens.Lens.{Lens}
 use Rattle.plate_model.specs.Layout.{Size, places}
 use Rattle.plate_model.specs.Word.{Pixel, empty, Entry, entryOf}
 use Rattle.plate_model.specs.Kernel.{markCount}
-use Rattle.plate_model.specs.Refusal.{Outcome, Accepted, Refused, LogEmpty, outcomeNumber, askCheck, inputsCheck, layerCheck, viewsCheck, sumsCheck, canvasCheck}
+use Rattle.plate_model.specs.Refusal.{Outcome, Accepted, Refused, LogEmpty, outcomeNumber, askCheck, inputsCheck}
+use Rattle.plate_model.specs.Refusal.{layerCheck, viewsCheck, sumsCheck, canvasCheck}
 use Rattle.plate_model.specs.Lent.{Ask, Inputs, Views, Canvas}
 use Rattle.plate_model.specs.Asked.{askedPlace, askedPixel, knownShape, filled}
 use Rattle.plate_model.specs.Listed.{listTo, zeros}
@@ -93,7 +94,8 @@ bookFill b o n f = bookFillBy
 unfoldable pub bookShowBy : Outcome → Book → BookLeft
 bookShowBy (Refused f) b = bookRefused (Refused f) b
 bookShowBy Accepted b =
-    bookLeft (record { number = 0; marks = 0; pictures = both (plainValues (b .size) (b .grid)) (plainMattes (b .size) (b .grid)) }) b
+    bookLeft
+    (record { number = 0; marks = 0; pictures = both (plainValues (b .size) (b .grid)) (plainMattes (b .size) (b .grid)) }) b
 
 unfoldable pub bookShow : Book → Views → BookLeft
 bookShow b v = bookShowBy (viewsCheck (b .size) (length (v .scratch)) (length (v .values)) (length (v .mattes))) b

@@ -83,11 +83,13 @@ abbrev pub firstForm : KeptCall → Call
 firstForm (keptPut x y v a s r) = putIt x y v a s r
 firstForm keptUndo = undoIt
 
--- so on a plate after any list of calls the kept sums are the plain sums of the notebook's grid after the list and the changes, with
+-- so on a plate after any list of calls the kept sums are the plain sums of the notebook's grid after the list and the changes,
+-- with
 -- nothing wrapped, and the kept pictures its plain pictures
 abbrev pub PaintsPlain : Type 0
 PaintsPlain =
-    (z : Size) (l : Lent) (calls : List Call) (v : Views) (sums : List ℕ) (changes : List KeptCall) → openCheck z (lengthsOf l) ≡ Accepted →
+    (z : Size) (l : Lent) (calls : List Call) (v : Views) (sums : List ℕ) (changes : List KeptCall)
+    → openCheck z (lengthsOf l) ≡ Accepted →
     let p = plateAfter (leftBy (openCall z l)) calls in
     let first = showKeptCall (p .state) (p .buffers .planes) v sums in
     let end = paintAll (shownPainting p first) changes in

@@ -17,7 +17,9 @@ use Rattle.plate_model.specs.Layout.{Size, padded, places, sumsInAll}
 use Rattle.plate_model.specs.Lent.{State, LentLengths, Ask, Inputs}
 pub use Rattle.plate_model.specs.declared.state.Answer.{Answer}
 pub use Rattle.plate_model.specs.declared.state.Refusal.{Refusal}
-pub use Rattle.plate_model.specs.declared.state.Refusal.the-variants.{Sizes, Lengths, LogCount, Place, Value, UnknownShape, LargeRadius, LogFull, LogEmpty, StoredWord, UnlawfulLens, Depth, DepthInside}
+pub use Rattle.plate_model.specs.declared.state.Refusal.the-variants.{Sizes, Lengths, LogCount, Place, Value, UnknownShape}
+pub use Rattle.plate_model.specs.declared.state.Refusal.the-variants.{LargeRadius, LogFull, LogEmpty, StoredWord}
+pub use Rattle.plate_model.specs.declared.state.Refusal.the-variants.{UnlawfulLens, Depth, DepthInside}
 pub use Rattle.plate_model.specs.declared.state.Outcome.{Outcome}
 pub use Rattle.plate_model.specs.declared.state.Outcome.the-variants.{Accepted, Refused}
 

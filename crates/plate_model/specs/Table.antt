@@ -16,7 +16,9 @@ use Rattle.plate_model.specs.Fixed.{planesInAll, scratchPlanes, sideTop,
 use Rattle.plate_model.specs.Layout.{Size, sizeFrom, padded, places, placeAt, sumsInAll}
 use Rattle.plate_model.specs.Lent.{State, stateOf, Lent, LentLengths, lengthsOf, ask, Inputs, Views, Canvas}
 use Rattle.plate_model.specs.Word.{shapeIn, radiusIn}
-use Rattle.plate_model.specs.Refusal.{Refusal, Sizes, Lengths, LogCount, Place, Value, UnknownShape, LargeRadius, LogFull, LogEmpty, StoredWord, UnlawfulLens, Depth, DepthInside, Outcome, Accepted, Refused, refusalNumber, openCheck}
+use Rattle.plate_model.specs.Refusal.{Refusal, Sizes, Lengths, LogCount, Place, Value, UnknownShape, LargeRadius, LogFull}
+use Rattle.plate_model.specs.Refusal.{LogEmpty, StoredWord, UnlawfulLens, Depth, DepthInside, Outcome, Accepted, Refused}
+use Rattle.plate_model.specs.Refusal.{refusalNumber, openCheck}
 use Rattle.plate_model.specs.Calls.{Left, refused, Shown, shows, answerOf, openCall, putCall, undoCall, fillCall, showCall}
 use Rattle.plate_model.specs.Kept.{Refreshed, leavesKept, putKeptCall, undoKeptCall, ShownKept, showsKept, showKeptCall}
 use Rattle.plate_model.specs.Total.{Totalled, totalled, noTotals, totalCall}
@@ -146,7 +148,8 @@ InsideLens l d = (d ≢ 0) × (d ≤ l .focal)
 abbrev pub openRows : Size → Lent → List (TableRow Refusal)
 openRows z l = row Sizes (SizesOutside z) ∷ row Lengths (LentWrong z (lengthsOf l)) ∷ []
 
--- a put at x and y of a value, a shape's number and a radius, by when a length that it is lent is wrong; "For 10, put reads the word
+-- a put at x and y of a value, a shape's number and a radius, by when a length that it is lent is wrong; "For 10, put reads the
+-- word
 -- at its place"
 abbrev pub putRowsBy : Type 0 → State → (x y value shape radius : ℕ) → Lent → List (TableRow Refusal)
 putRowsBy wrong s x y value shape radius l =
@@ -233,7 +236,8 @@ pub record Orders : Type 0 where
 -- DEMAND 1
 -- a call that goes by its rows: its number is theirs, and "after a refusal every lent buffer is as before", the mark count 0 and
 -- the state that is handed back. What a call leaves differs from call to call.
-pub record CallBy {A : Type 0} (rows : List (TableRow Refusal)) (numberIn : A → ℕ) (refusedAs : Refusal → A) (call : A) : Type 0 where
+pub record CallBy {A : Type 0} (rows : List (TableRow Refusal)) (numberIn : A → ℕ) (refusedAs : Refusal → A)
+    (call : A) : Type 0 where
   pub first : AnswersBy rows (numberIn call)
   pub untouched : (f : Refusal) → numberIn call ≡ refusalNumber f → call ≡ refusedAs f
 

@@ -60,4 +60,5 @@ entryIn i Broken = Unreadable
 entryIn i (Whole p) = Logged (record { place = i; pixel = p })
 
 unfoldable pub readEntry : Size → ℕ → EntryRead
-readEntry z e = pick (leb (places z) (e / 2 ^ wordBits)) Unreadable (entryIn (e / 2 ^ wordBits) (readWord (z .reach) (e % 2 ^ wordBits)))
+readEntry z e =
+    pick (leb (places z) (e / 2 ^ wordBits)) Unreadable (entryIn (e / 2 ^ wordBits) (readWord (z .reach) (e % 2 ^ wordBits)))

@@ -3,7 +3,8 @@
 use mathlib.Core.Path.{_≡_}
 use Prim.Native.Nat.{ℕ, _<_}
 use Rattle.plate_model.specs.Layout.{Size, places}
-use Rattle.plate_model.specs.Word.{Pixel, Fits, wordOf, Whole, Broken, readWord, Entry, entryOf, Logged, Unreadable, readEntry}
+use Rattle.plate_model.specs.Word.{Pixel, Fits, wordOf, Whole, Broken, readWord, Entry, entryOf, Logged, Unreadable}
+use Rattle.plate_model.specs.Word.{readEntry}
 use Rattle.plate_model.specs.Table.{LawfulSize, WordBroken, EntryBroken}
 
 -- WORDS, under a reach R

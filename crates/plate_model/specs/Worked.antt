@@ -14,7 +14,8 @@ use Rattle.plate_model.specs.Listed.{zeros}
 use Rattle.plate_model.specs.Calls.{openCall}
 use Rattle.plate_model.specs.Plain.{gridCell}
 use Rattle.plate_model.specs.Notebook.{openBook, both, Report, plain, logOf}
-use Rattle.plate_model.specs.Lists.{Byte, Call, putIt, undoIt, fillIt, showIt, leftBy, plateReports, plateAfter, bookReports, bookAfter}
+use Rattle.plate_model.specs.Lists.{Byte, Call, putIt, undoIt, fillIt, showIt, leftBy, plateReports, plateAfter}
+use Rattle.plate_model.specs.Lists.{bookReports, bookAfter}
 
 -- THE PLATE: W 4, H 3, R 2, and a log of 5 entries. A padded plane has (4 + 4 + 6) × (3 + 4 + 6) = 14 × 13 = 182 cells: planes of
 -- 14 × 182 = 2,548 cells, 12 pixels, a scratch of 3 × 182 = 546.
@@ -33,10 +34,12 @@ pub record Gives (calls : List Call) (reports : List Report) (words log : List �
   pub book-reports : bookReports (openBook fourByThree roomForFive) calls ≡ reports
   pub book-words : map wordOf (bookAfter (openBook fourByThree roomForFive) calls .grid) ≡ words
   pub book-log : logOf roomForFive (bookAfter (openBook fourByThree roomForFive) calls .pile) ≡ log
-  pub plate-reports : (l : Lent) → lengthsOf l ≡ lentLengths 2548 12 5 → plateReports (leftBy (openCall fourByThree l)) calls ≡ reports
+  pub plate-reports : (l : Lent) → lengthsOf l ≡ lentLengths 2548 12 5
+      → plateReports (leftBy (openCall fourByThree l)) calls ≡ reports
   pub plate-words : (l : Lent) → lengthsOf l ≡ lentLengths 2548 12 5
       → plateAfter (leftBy (openCall fourByThree l)) calls .buffers .pixels ≡ words
-  pub plate-log : (l : Lent) → lengthsOf l ≡ lentLengths 2548 12 5 → plateAfter (leftBy (openCall fourByThree l)) calls .buffers .log ≡ log
+  pub plate-log : (l : Lent) → lengthsOf l ≡ lentLengths 2548 12 5
+      → plateAfter (leftBy (openCall fourByThree l)) calls .buffers .log ≡ log
   pub plate-count : (l : Lent) → lengthsOf l ≡ lentLengths 2548 12 5
       → plateAfter (leftBy (openCall fourByThree l)) calls .state .count ≡ count
 

@@ -7,7 +7,8 @@ use Rattle.lens_c.proofs.lens_fill.Tie as tie
 
 returns : tie.Need-returns
 returns c =
-    rw (c .answer-out .ensures, ← c .before .before .before .before .before .before .before .before .before .before .before .state-in .ensures) (ap leftOut (c .before .before .before .before .before .before .before .fill .ensures))
+    let called = c .before .before .before .before .before .before .before in
+    rw (c .answer-out .ensures, ← called .before .before .before .before .state-in .ensures) (ap leftOut (called .fill .ensures))
 
 pub lens-fill-spec : {M : Type 1} → statement M
 lens-fill-spec =

@@ -7,7 +7,8 @@ use Rattle.lens_c.proofs.lens_show.Tie as tie
 
 returns : tie.Need-returns
 returns c =
-    rw (c .answer-out .ensures, ← c .before .before .before .before .before .before .before .before .before .before .before .state-in .ensures) (ap shownOut (c .before .before .before .before .before .before .before .show .ensures))
+    let called = c .before .before .before .before .before .before .before in
+    rw (c .answer-out .ensures, ← called .before .before .before .before .state-in .ensures) (ap shownOut (called .show .ensures))
 
 pub lens-show-spec : {M : Type 1} → statement M
 lens-show-spec =

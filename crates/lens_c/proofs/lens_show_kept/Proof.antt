@@ -8,7 +8,8 @@ use Rattle.lens_c.proofs.lens_show_kept.Tie as tie
 returns : tie.Need-returns
 returns c =
     let called = c .before .before .before .before .before .before .before .before .before in
-    rw (c .answer-out .ensures, ← called .before .before .before .before .before .state-in .ensures) (ap shownKeptOut (called .show-kept .ensures))
+    rw (c .answer-out .ensures, ← called .before .before .before .before .before .state-in .ensures)
+    (ap shownKeptOut (called .show-kept .ensures))
 
 pub lens-show-kept-spec : {M : Type 1} → statement M
 lens-show-kept-spec =

@@ -8,7 +8,8 @@ use Rattle.lens_c.proofs.lens_undo_kept.Tie as tie
 returns : tie.Need-returns
 returns c =
     let called = c .before .before .before .before .before .before .before .before .before .before .before .before .before in
-    rw (c .answer-out .ensures, ← called .before .before .before .before .before .before .before .state-in .ensures) (ap refreshedOut (called .undo-kept .ensures))
+    rw (c .answer-out .ensures, ← called .before .before .before .before .before .before .before .state-in .ensures)
+    (ap refreshedOut (called .undo-kept .ensures))
 
 pub lens-undo-kept-spec : {M : Type 1} → statement M
 lens-undo-kept-spec =

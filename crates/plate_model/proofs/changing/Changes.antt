@@ -9,11 +9,13 @@ use Rattle.plate_model.specs.Lent.{State, Ask, Lent, lengthsOf}
 use Rattle.plate_model.specs.Word.{Unpacked, Whole, Broken, readWord, Entry, EntryRead, Logged, Unreadable, readEntry}
 use Rattle.plate_model.specs.Refusal.{Refusal, Outcome, Accepted, Refused, putCheck, undoCheck}
 use Rattle.plate_model.specs.Asked.{askedPlace, askedPixel}
-use Rattle.plate_model.specs.Change.{Change, ToChange, NoChange, putOver, putReadBy, putRead, undoOver, undoEntry, undoReadBy, undoRead}
+use Rattle.plate_model.specs.Change.{Change, ToChange, NoChange, putOver, putReadBy, putRead, undoOver, undoEntry}
+use Rattle.plate_model.specs.Change.{undoReadBy, undoRead}
 use Rattle.plate_model.specs.Word.{Fits}
 use Rattle.plate_model.specs.Ready.{PutReady, PutReads, UndoReady, UndoReads}
 use Rattle.plate_model.proofs.numbers.Extents.{row-of}
-use Rattle.plate_model.proofs.checks.Accepted.{PlateAccepted, plate-accepted, AskAccepted, ask-accepted, asked-fits, some-accepted}
+use Rattle.plate_model.proofs.checks.Accepted.{PlateAccepted, plate-accepted, AskAccepted, ask-accepted, asked-fits}
+use Rattle.plate_model.proofs.checks.Accepted.{some-accepted}
 use Rattle.plate_model.proofs.words.Words.{read-fits, read-word, word-small, entry-read}
 
 pub no-change : {P : Type 0} (f : Refusal) (c : Change) → NoChange f ≡ ToChange c → P
@@ -51,7 +53,8 @@ module _ (s : State) (a : Ask) (l : Lent) (byte : a .opacity < 256) (c : Change)
         has-room = omega (arith, plate .count-in);
       })
 
-  put-ready-by : (o : Outcome) → putCheck s a (lengthsOf l) ≡ o → putReadBy o (s .size) a (l .pixels) ≡ ToChange c → PutReady s c l
+  put-ready-by : (o : Outcome) → putCheck s a (lengthsOf l) ≡ o → putReadBy o (s .size) a (l .pixels) ≡ ToChange c
+      → PutReady s c l
   unfolding putReadBy putCheck
   put-ready-by (Refused f) k e = no-change f c e
   put-ready-by Accepted k e =
@@ -98,7 +101,8 @@ module _ (s : State) (l : Lent) (c : Change) (plate : PlateAccepted s (lengthsOf
   undo-logged w Unreadable is q = no-change _ c q
   undo-logged w (Logged e) is q = let h = entry-read (s .size) w e is in undo-whole e (h .0) (h .1) _ refl q
 
-undo-ready-by : (s : State) (l : Lent) (c : Change) (o : Outcome) → undoCheck s (lengthsOf l) ≡ o → undoReadBy o s (l .pixels) (l .log) ≡ ToChange c
+undo-ready-by : (s : State) (l : Lent) (c : Change) (o : Outcome) → undoCheck s (lengthsOf l) ≡ o
+    → undoReadBy o s (l .pixels) (l .log) ≡ ToChange c
     → UndoReady s c l
 unfolding undoReadBy undoCheck
 undo-ready-by s l c (Refused f) k q = no-change f c q

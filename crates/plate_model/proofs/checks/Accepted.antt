@@ -10,13 +10,16 @@ use Rattle.kernels_model.specs.Lens.{lawfulLens}
 use Rattle.kernels_model.specs.Fixed.{valueTop, depthTop}
 use Rattle.plate_model.specs.Layout.{Size, places}
 use Rattle.plate_model.specs.Lent.{State, LentLengths, Ask, Inputs}
-use Rattle.plate_model.specs.Refusal.{Outcome, Accepted, Value, Depth, sizesCheck, lentCheck, askCheck, layerCheck, plateCheck, emptyCheck}
+use Rattle.plate_model.specs.Refusal.{Outcome, Accepted, Value, Depth, sizesCheck, lentCheck, askCheck, layerCheck}
+use Rattle.plate_model.specs.Refusal.{plateCheck, emptyCheck}
 use Rattle.plate_model.specs.Asked.{askedPlace, knownShape, askedPixel}
 use Rattle.plate_model.specs.Table.{LawfulSize, LentFor}
 use Rattle.plate_model.specs.Word.{Fits}
 use Rattle.plate_model.proofs.numbers.Extents.{place-within}
 use Rattle.plate_model.proofs.checks.Rows.{check-passed}
-use Rattle.plate_model.proofs.checks.Conditions.{count-checks, place-checks, value-checks, shape-checks, named-checks, radius-checks, radius-under, full-checks, empty-checks, above-checks, lens-checks}
+use Rattle.plate_model.proofs.checks.Conditions.{count-checks, place-checks, value-checks, shape-checks, named-checks}
+use Rattle.plate_model.proofs.checks.Conditions.{radius-checks, radius-under, full-checks, empty-checks, above-checks}
+use Rattle.plate_model.proofs.checks.Conditions.{lens-checks}
 use Rattle.plate_model.proofs.checks.Passed.{sizes-passed, lent-passed}
 
 -- the plate's checks, whatever comes after them

@@ -23,9 +23,13 @@ use Rattle.kernels_model.specs.Fixed.{shapeCount, valueTop}
 use Rattle.plate_model.specs.Fixed.{planesInAll, scratchPlanes, sideTop, placesTop, reachTop, logTop}
 use Rattle.plate_model.specs.Layout.{Size, padded, places, sumsInAll}
 use Rattle.plate_model.specs.Lent.{LentLengths, Ask}
-use Rattle.plate_model.specs.Refusal.{Refusal, Sizes, Lengths, LogCount, Place, Value, UnknownShape, LargeRadius, LogFull, LogEmpty, UnlawfulLens, DepthInside, refuseIf, sizesCheck, lengthCheck, lentCheck, inputsCheck, countCheck, placeCheck, valueCheck, shapeCheck, radiusCheck, fullCheck, emptyCheck, anyOf, anyAbove, isBetween, lensCheck, insideCheck}
+use Rattle.plate_model.specs.Refusal.{Refusal, Sizes, Lengths, LogCount, Place, Value, UnknownShape, LargeRadius, LogFull}
+use Rattle.plate_model.specs.Refusal.{LogEmpty, UnlawfulLens, DepthInside, refuseIf, sizesCheck, lengthCheck, lentCheck}
+use Rattle.plate_model.specs.Refusal.{inputsCheck, countCheck, placeCheck, valueCheck, shapeCheck, radiusCheck, fullCheck}
+use Rattle.plate_model.specs.Refusal.{emptyCheck, anyOf, anyAbove, isBetween, lensCheck, insideCheck}
 use Rattle.plate_model.specs.Asked.{knownShape}
-use Rattle.plate_model.specs.Table.{SizesOutside, LentWrong, PlaceOutside, SomeOf, ShapeAbove, RadiusAbove, LensOutside, InsideLens, LawfulSize, LentFor}
+use Rattle.plate_model.specs.Table.{SizesOutside, LentWrong, PlaceOutside, SomeOf, ShapeAbove, RadiusAbove, LensOutside}
+use Rattle.plate_model.specs.Table.{InsideLens, LawfulSize, LentFor}
 use Rattle.plate_model.proofs.checks.Rows.{Checks, refusing, passing, checks-both}
 
 -- what closes an equation between a chain of tests and its answer
@@ -182,7 +186,8 @@ radius-checks R (Known s) r =
     (λ h. passing (λ a b. b a) (λ a. omega arith) (λ next. search tests))
 
 -- the top of a shape that is read is not passed
-pub radius-under : (R : ℕ) (s : ShapeRead) (r : ℕ) → s ≡ Known (knownShape s) → ¬ (RadiusAbove R s r) → r ≤ topUnder (knownShape s) R
+pub radius-under : (R : ℕ) (s : ShapeRead) (r : ℕ) → s ≡ Known (knownShape s) → ¬ (RadiusAbove R s r)
+    → r ≤ topUnder (knownShape s) R
 unfolding RadiusAbove
 radius-under R Unknown r e h = unknown-not (knownShape Unknown) e
 radius-under R (Known s) r e h = by-lt (topUnder s R) r (λ l. absurd (h l)) (λ l. l)

@@ -6,7 +6,9 @@ use Prim.Native.Nat.{ℕ, _≤_}
 use native.Mathlib.Omega.{arith}
 use lib.Dec.{lit≤}
 use lib.ListN.{getD}
-use Rattle.plate_model.specs.Refusal.{Refusal, Sizes, Lengths, LogCount, Place, Value, UnknownShape, LargeRadius, LogFull, LogEmpty, StoredWord, UnlawfulLens, Depth, DepthInside, Outcome, Accepted, Refused, refusalNumber, outcomeNumber}
+use Rattle.plate_model.specs.Refusal.{Refusal, Sizes, Lengths, LogCount, Place, Value, UnknownShape, LargeRadius, LogFull}
+use Rattle.plate_model.specs.Refusal.{LogEmpty, StoredWord, UnlawfulLens, Depth, DepthInside, Outcome, Accepted, Refused}
+use Rattle.plate_model.specs.Refusal.{refusalNumber, outcomeNumber}
 use Rattle.kernels_model.specs.Rows.{TableRow, row, NoneOf, FirstOf}
 use Rattle.kernels_model.proofs.refusals.Rows.{none-accepted, accepted-none, same-answer, first-says, first-then}
 use Rattle.plate_model.specs.Table.{AnswersBy}

@@ -12,15 +12,30 @@ use Rattle.kernels_model.specs.Shape.{shapeOf}
 use Rattle.plate_model.specs.Layout.{Size, sizeFrom}
 use Rattle.plate_model.specs.Lent.{State, stateOf, Lent, lengthsOf, Ask, ask, Inputs, Views, Canvas}
 use Rattle.plate_model.specs.Word.{readWord, readEntry}
-use Rattle.plate_model.specs.Refusal.{Refusal, Sizes, Lengths, LogCount, Place, Value, UnknownShape, LargeRadius, LogFull, StoredWord, UnlawfulLens, Depth, DepthInside, Outcome, Accepted, Refused, refusalNumber, outcomeNumber, openCheck, plateCheck, askCheck, putCheck, undoCheck, emptyCheck, fillFirst, layerCheck, fillCheck, viewsCheck, totalCheck, showCheck, sizesCheck, canvasCheck, keptCheck, showKeptCheck}
+use Rattle.plate_model.specs.Refusal.{Refusal, Sizes, Lengths, LogCount, Place, Value, UnknownShape, LargeRadius, LogFull}
+use Rattle.plate_model.specs.Refusal.{StoredWord, UnlawfulLens, Depth, DepthInside, Outcome, Accepted, Refused}
+use Rattle.plate_model.specs.Refusal.{refusalNumber, outcomeNumber, openCheck, plateCheck, askCheck, putCheck, undoCheck}
+use Rattle.plate_model.specs.Refusal.{emptyCheck, fillFirst, layerCheck, fillCheck, viewsCheck, totalCheck, showCheck}
+use Rattle.plate_model.specs.Refusal.{sizesCheck, canvasCheck, keptCheck, showKeptCheck}
 use Rattle.plate_model.specs.Asked.{askedPlace}
-use Rattle.plate_model.specs.Change.{Change, ChangeRead, ToChange, NoChange, putOver, putReadBy, putRead, undoOver, undoEntry, undoReadBy, undoRead}
-use Rattle.plate_model.specs.Calls.{Left, refused, Shown, shows, answerOf, openBy, openCall, putBy, putCall, undoBy, undoCall, fillBy, fillCall, showBy, showCall, changed}
-use Rattle.plate_model.specs.Kept.{Refreshed, leavesKept, keptRead, canvasFirst, canvasBy, putKeptBy, putKeptCall, undoKeptBy, undoKeptCall, sumsBy, ShownKept, showsKept, showKeptBy, showKeptCall}
+use Rattle.plate_model.specs.Change.{Change, ChangeRead, ToChange, NoChange, putOver, putReadBy, putRead, undoOver}
+use Rattle.plate_model.specs.Change.{undoEntry, undoReadBy, undoRead}
+use Rattle.plate_model.specs.Calls.{Left, refused, Shown, shows, answerOf, openBy, openCall, putBy, putCall, undoBy}
+use Rattle.plate_model.specs.Calls.{undoCall, fillBy, fillCall, showBy, showCall, changed}
+use Rattle.plate_model.specs.Kept.{Refreshed, leavesKept, keptRead, canvasFirst, canvasBy, putKeptBy, putKeptCall}
+use Rattle.plate_model.specs.Kept.{undoKeptBy, undoKeptCall, sumsBy, ShownKept, showsKept, showKeptBy, showKeptCall}
 use Rattle.plate_model.specs.Total.{Totalled, totalled, noTotals, totalBy, totalCall}
-use Rattle.plate_model.specs.Table.{CanvasWrong, SizesOutside, LentWrong, InputsWrong, ViewsWrong, TotalWrong, CountAbove, PlaceOutside, ValueAbove, SomeOf, ShapeAbove, RadiusAbove, WordBroken, EntryBroken, placeIn, LensOutside, DepthAbove, InsideLens, LawfulSize, openRows, putRows, undoRows, fillRows, showRows, totalRows, putKeptRows, undoKeptRows, showKeptRows, CallBy, GoesBy, ShowGoesBy, KeptGoesBy, ShowKeptGoesBy, TotalGoesBy, Orders, Demand1, OpenAccepts}
-use Rattle.plate_model.proofs.checks.Rows.{refused-not, outcome-numbered, OutcomeBy, number-by, last-row, andThen, answers-then, Checks, by-check, check-before, first-check, checks-both}
-use Rattle.plate_model.proofs.checks.Conditions.{sizes-checks, length-checks, lent-checks, inputs-checks, total-checks, views-checks, canvas-checks, count-checks, place-checks, value-checks, shape-checks, radius-checks, full-checks, empty-checks, above-checks, inside-checks, lens-checks}
+use Rattle.plate_model.specs.Table.{CanvasWrong, SizesOutside, LentWrong, InputsWrong, ViewsWrong, TotalWrong, CountAbove}
+use Rattle.plate_model.specs.Table.{PlaceOutside, ValueAbove, SomeOf, ShapeAbove, RadiusAbove, WordBroken, EntryBroken}
+use Rattle.plate_model.specs.Table.{placeIn, LensOutside, DepthAbove, InsideLens, LawfulSize, openRows, putRows, undoRows}
+use Rattle.plate_model.specs.Table.{fillRows, showRows, totalRows, putKeptRows, undoKeptRows, showKeptRows, CallBy, GoesBy}
+use Rattle.plate_model.specs.Table.{ShowGoesBy, KeptGoesBy, ShowKeptGoesBy, TotalGoesBy, Orders, Demand1, OpenAccepts}
+use Rattle.plate_model.proofs.checks.Rows.{refused-not, outcome-numbered, OutcomeBy, number-by, last-row, andThen}
+use Rattle.plate_model.proofs.checks.Rows.{answers-then, Checks, by-check, check-before, first-check, checks-both}
+use Rattle.plate_model.proofs.checks.Conditions.{sizes-checks, length-checks, lent-checks, inputs-checks, total-checks}
+use Rattle.plate_model.proofs.checks.Conditions.{views-checks, canvas-checks, count-checks, place-checks, value-checks}
+use Rattle.plate_model.proofs.checks.Conditions.{shape-checks, radius-checks, full-checks, empty-checks, above-checks}
+use Rattle.plate_model.proofs.checks.Conditions.{inside-checks, lens-checks}
 use Rattle.plate_model.proofs.checks.Passed.{sizes-pass, lent-pass}
 use Rattle.plate_model.proofs.checks.Accepted.{plate-accepted}
 use Rattle.plate_model.proofs.words.Stored.{WordTold, word-told, EntryTold, entry-told}
@@ -74,7 +89,8 @@ refusal-read (ToChange c) f e = refused-not f (sym e)
 refusal-read (NoChange g) f e = let same : g ≡ f = cc in rw same
 
 -- 1 2 3, and what is known where they pass
-plate-first : (s : State) (l : Lent) (rows : List (TableRow Refusal)) (next : Outcome) → (LawfulSize (s .size) → OutcomeBy rows next)
+plate-first : (s : State) (l : Lent) (rows : List (TableRow Refusal)) (next : Outcome)
+    → (LawfulSize (s .size) → OutcomeBy rows next)
     → OutcomeBy
     (row Sizes (SizesOutside (s .size)) ∷ row Lengths (LentWrong (s .size) (lengthsOf l)) ∷ row LogCount (CountAbove s l) ∷ rows)
     (plateCheck s (lengthsOf l) next)
@@ -227,7 +243,8 @@ also-checked : {C D : Type 0} {check : Outcome → Outcome} (z : Size) → Check
     → OutcomeBy (row Sizes (SizesOutside z) ∷ row Lengths (L ⊎ C) ∷ rows) (sizesCheck z (check next))
 unfolding FirstOf
 also-checked {C} {D} {check} z k L rows next first =
-    first-check (sizes-checks z) (row Lengths (L ⊎ C) ∷ rows) (check next) (λ lawful. by-check k wrong (λ right r. rw (r next) (past lawful right first)))
+    first-check (sizes-checks z) (row Lengths (L ⊎ C) ∷ rows) (check next)
+    (λ lawful. by-check k wrong (λ right r. rw (r next) (past lawful right first)))
   where
     wrong : C → ((o : Outcome) → check o ≡ Refused Lengths) → OutcomeBy (row Lengths (L ⊎ C) ∷ rows) (check next)
     wrong c r = inl (inr c, r next)
@@ -289,7 +306,8 @@ show-kept-goes s planes v sums =
     (also-checked (s .size) (length-checks (length sums) _) _ [] _ (show-first s planes v))
 
 -- TOTAL
-total-goes : (s : State) (planes scratch : List ℕ) → TotalGoesBy (totalRows s planes scratch) s scratch (totalCall s planes scratch)
+total-goes : (s : State) (planes scratch : List ℕ)
+    → TotalGoesBy (totalRows s planes scratch) s scratch (totalCall s planes scratch)
 unfolding totalCall totalBy totalCheck TotalWrong
 total-goes s planes scratch =
     call-by (λ o. o) (λ (a : Totalled). a .answer .number) (λ f. totalled (noTotals (answerOf (Refused f) 0 s)) scratch)

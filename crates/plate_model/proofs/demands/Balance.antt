@@ -1,4 +1,5 @@
--- Light is neither made nor lost: every kernel lies whole inside the padded plane, so what a plate holds in all is what its pixels
+-- Light is neither made nor lost: every kernel lies whole inside the padded plane, so what a plate holds in all is what its
+-- pixels
 -- had.
 use mathlib.Core.Path.{_≡_, ap, _∙_}
 use mathlib.Core.List.{List}
@@ -29,7 +30,8 @@ use Rattle.plate_model.proofs.checks.Passed.{sizes-pass}
 use Rattle.plate_model.proofs.numbers.Extents.{row-of}
 use Rattle.kernels_model.proofs.taps.ShapeNumbers.{reach-under}
 use Rattle.plate_model.proofs.demands.Squares.{weights-on}
-use Rattle.plate_model.proofs.demands.PlainSums.{sum-le, matte-most, light-most, InPicture, in-light, in-matte, cellWeight, cell-wrapped}
+use Rattle.plate_model.proofs.demands.PlainSums.{sum-le, matte-most, light-most, InPicture, in-light, in-matte, cellWeight}
+use Rattle.plate_model.proofs.demands.PlainSums.{cell-wrapped}
 use Rattle.plate_model.proofs.demands.Mirror.{Mirrored}
 use Rattle.plate_model.proofs.demands.Demand.{opened}
 
@@ -109,13 +111,15 @@ had-below z grid law fits = (
 )
 
 -- THE TOTAL
-module _ (z : Size) (room : ℕ) (planes : List ℕ) (grid : List Pixel) (pile : List Entry) (kept : Mirrored z room planes grid pile) where
+module _ (z : Size) (room : ℕ) (planes : List ℕ) (grid : List Pixel) (pile : List Entry)
+    (kept : Mirrored z room planes grid pile) where
   below : (hadBy z grid matteOf < 2 ^ 64) × (hadBy z grid lightOf < 2 ^ 64)
   below = had-below z grid (kept .lawful) (kept .grid-fits)
 
   light-held : heldFrom z planes 0 ≡ hadBy z grid lightOf
   light-held =
-      held-wrapped z planes grid (kept .lawful) (kept .each-cell) (kept .grid-fits) 0 (omega arith) lightOf (in-light z (kept .lawful))
+      held-wrapped z planes grid (kept .lawful) (kept .each-cell) (kept .grid-fits) 0 (omega arith) lightOf
+      (in-light z (kept .lawful))
       ∙ mod-eq-of-lt (below .1)
 
   matte-held : heldFrom z planes planesEach ≡ hadBy z grid matteOf
@@ -125,7 +129,8 @@ module _ (z : Size) (room : ℕ) (planes : List ℕ) (grid : List Pixel) (pile :
       ∙ mod-eq-of-lt (below .0)
 
   -- it is refused for its scratch alone
-  accepts : (scratch : List ℕ) → length scratch ≡ scratchPlanes * padded z → totalCheck z (length planes) (length scratch) ≡ Accepted
+  accepts : (scratch : List ℕ) → length scratch ≡ scratchPlanes * padded z
+      → totalCheck z (length planes) (length scratch) ≡ Accepted
   unfolding totalCheck
   accepts scratch e =
       sizes-pass z _ (kept .lawful)

@@ -9,22 +9,29 @@ use lib.ListN.{getD, length, replicate}
 use Rattle.kernels_model.specs.Rounding.{shownValue, shownMatte}
 use Rattle.plate_model.specs.Layout.{Size, padded, places, sumsInAll}
 use Rattle.plate_model.specs.Word.{Pixel, empty, Entry}
-use Rattle.plate_model.specs.Refusal.{Refusal, Lengths, Outcome, Accepted, Refused, refusalNumber, viewsCheck, openCheck, showCheck, keptCheck, showKeptCheck}
+use Rattle.plate_model.specs.Refusal.{Refusal, Lengths, Outcome, Accepted, Refused, refusalNumber, viewsCheck, openCheck}
+use Rattle.plate_model.specs.Refusal.{showCheck, keptCheck, showKeptCheck}
 use Rattle.plate_model.specs.Change.{ChangeRead, NoChange}
 use Rattle.plate_model.specs.Lent.{stateOf, Lent, lengthsOf, Views, Canvas, Ask, ask, inputs}
 use Rattle.plate_model.specs.Listed.{zeros, listTo}
-use Rattle.plate_model.specs.Calls.{Left, refused, answerOf, putBy, putCall, undoBy, undoCall, sumAt, shown, showBy, showCall, openCall}
-use Rattle.plate_model.specs.Kept.{keptRead, canvasFirst, putKeptBy, putKeptCall, undoKeptBy, undoKeptCall, showKeptBy, showKeptCall}
+use Rattle.plate_model.specs.Calls.{Left, refused, answerOf, putBy, putCall, undoBy, undoCall, sumAt, shown, showBy}
+use Rattle.plate_model.specs.Calls.{showCall, openCall}
+use Rattle.plate_model.specs.Kept.{keptRead, canvasFirst, putKeptBy, putKeptCall, undoKeptBy, undoKeptCall, showKeptBy}
+use Rattle.plate_model.specs.Kept.{showKeptCall}
 use Rattle.plate_model.specs.Plain.{matteOf, lightOf, plainSum, plainSums, plainValues, plainMattes}
-use Rattle.plate_model.specs.Notebook.{Book, bookOf, openBook, both, Report, plain, BookLeft, bookShowBy, bookShow, bookKept, canvasWith, bookPutKept, bookUndoKept, bookShowKept}
-use Rattle.plate_model.specs.Lists.{Byte, codes, Call, Plate, leftBy, putIt, undoIt, fillIt, showIt, putKeptIt, undoKeptIt, showKeptIt, stepOf, seenBy, shownTo, plateStep, bookStep, plateReports, plateAfter, bookReports, bookAfter, Holds, Demand3, Demand2}
+use Rattle.plate_model.specs.Notebook.{Book, bookOf, openBook, both, Report, plain, BookLeft, bookShowBy, bookShow}
+use Rattle.plate_model.specs.Notebook.{bookKept, canvasWith, bookPutKept, bookUndoKept, bookShowKept}
+use Rattle.plate_model.specs.Lists.{Byte, codes, Call, Plate, leftBy, putIt, undoIt, fillIt, showIt, putKeptIt, undoKeptIt}
+use Rattle.plate_model.specs.Lists.{showKeptIt, stepOf, seenBy, shownTo, plateStep, bookStep, plateReports, plateAfter}
+use Rattle.plate_model.specs.Lists.{bookReports, bookAfter, Holds, Demand3, Demand2}
 use Rattle.plate_model.proofs.checks.Rows.{refusal-some, by-check}
 use Rattle.plate_model.proofs.checks.Conditions.{length-checks}
 use Rattle.plate_model.proofs.checks.Passed.{length-pass, sizes-pass}
 use Rattle.plate_model.proofs.demands.PlainSums.{show-fact}
 use Rattle.plate_model.proofs.numbers.Lists.{listTo-ext}
 use Rattle.plate_model.proofs.demands.Logs.{log-from-bottom}
-use Rattle.plate_model.proofs.demands.Mirror.{Mirrored, heldBy, mirror, Agree, agree-still, agree-refused, put-agrees, undo-agrees}
+use Rattle.plate_model.proofs.demands.Mirror.{Mirrored, heldBy, mirror, Agree, agree-still, agree-refused, put-agrees}
+use Rattle.plate_model.proofs.demands.Mirror.{undo-agrees}
 use Rattle.plate_model.proofs.demands.Fills.{fill-agrees, open-kept, open-mirror}
 use Rattle.plate_model.specs.Fixed.{planesInAll}
 use Rattle.kernels_model.specs.Fixed.{planesEach}
@@ -34,7 +41,8 @@ codes-small [] i = lit< tt
 codes-small (b ∷ bs) zero = b .small
 codes-small (b ∷ bs) (suc i) = codes-small bs i
 
-module _ (z : Size) (room : ℕ) (planes : List ℕ) (grid : List Pixel) (pile : List Entry) (kept : Mirrored z room planes grid pile) where
+module _ (z : Size) (room : ℕ) (planes : List ℕ) (grid : List Pixel) (pile : List Entry)
+    (kept : Mirrored z room planes grid pile) where
   -- SHOW
   sums : (i : ℕ) → i < places z
       → (sumAt z planes 0 i ≡ plainSum z grid lightOf i) × (sumAt z planes planesEach i ≡ plainSum z grid matteOf i)
@@ -89,7 +97,8 @@ module _ (z : Size) (room : ℕ) (planes : List ℕ) (grid : List Pixel) (pile :
 
   show-kept : (v : Views) → viewsCheck z (length (v .scratch)) (length (v .values)) (length (v .mattes)) ≡ Accepted
       → showCall (stateOf z (length pile)) planes v
-      ≡ shown (answerOf Accepted 0 (stateOf z (length pile))) (zeros (length (v .scratch))) (plainValues z grid) (plainMattes z grid)
+      ≡ shown (answerOf Accepted 0 (stateOf z (length pile))) (zeros (length (v .scratch))) (plainValues z grid)
+      (plainMattes z grid)
   unfolding showCall showBy
   show-kept v e = rw (show-checked v, e, values-plain, mattes-plain)
 
@@ -100,7 +109,8 @@ module _ (z : Size) (room : ℕ) (planes : List ℕ) (grid : List Pixel) (pile :
   canvas-checked k = sizes-pass z _ (kept .lawful)
 
   -- a second form is the first, or refused for them
-  kept-agrees : (by : ChangeRead → Left) → ((f : Refusal) → by (NoChange f) ≡ refused f (stateOf z (length pile)) (heldBy room planes grid pile))
+  kept-agrees : (by : ChangeRead → Left)
+      → ((f : Refusal) → by (NoChange f) ≡ refused f (stateOf z (length pile)) (heldBy room planes grid pile))
       → (o : Outcome) (r : ChangeRead) (t : BookLeft) → Agree z room (stepOf (by r)) t
       → Agree z room (stepOf (by (keptRead o r))) (bookKept o (bookOf z room grid pile) t)
   unfolding keptRead bookKept
@@ -140,7 +150,8 @@ module _ (z : Size) (room : ℕ) (planes : List ℕ) (grid : List Pixel) (pile :
       (show-by v (viewsCheck z (length (v .scratch)) (length (v .values)) (length (v .mattes))))))
 
   -- ONE CALL
-  pub step-agrees : (c : Call) → Agree z room (plateStep (mirror z room planes grid pile) c) (bookStep (bookOf z room grid pile) c)
+  pub step-agrees : (c : Call)
+      → Agree z room (plateStep (mirror z room planes grid pile) c) (bookStep (bookOf z room grid pile) c)
   unfolding plateStep bookStep
   step-agrees (putIt x y v a s r) = put-agrees z room planes grid pile kept (ask x y v (a .code) s (r .code)) (a .small)
   step-agrees undoIt = undo-agrees z room planes grid pile kept

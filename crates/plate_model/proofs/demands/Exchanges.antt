@@ -1,4 +1,5 @@
--- One pixel for another: the finished sums are linear in the planes, and a cell out of reach gets nothing of either pixel, so that
+-- One pixel for another: the finished sums are linear in the planes, and a cell out of reach gets nothing of either pixel, so
+-- that
 -- sums and pictures of the plate before, mended, are those of the plate after.
 use mathlib.Core.Path.{_≡_, refl, ap, sym, _∙_}
 use mathlib.Core.Bool.{false}
@@ -26,7 +27,8 @@ use Rattle.plate_model.specs.Change.{Change}
 use Rattle.plate_model.specs.Listed.{listTo}
 use Rattle.plate_model.specs.Calls.{stored, sumAt}
 use Rattle.plate_model.specs.Plain.{lightOf, matteOf, weightAt}
-use Rattle.plate_model.specs.Kept.{inReach, inReachOr, mendedSum, keptLight, keptMatte, mendedLight, mendedMatte, mended, sumsOf}
+use Rattle.plate_model.specs.Kept.{inReach, inReachOr, mendedSum, keptLight, keptMatte, mendedLight, mendedMatte, mended}
+use Rattle.plate_model.specs.Kept.{sumsOf}
 use Rattle.plate_model.specs.Painting.{canvasOf}
 use Rattle.plate_model.specs.Table.{LawfulSize}
 use Rattle.plate_model.specs.Word.{Fits}
@@ -36,13 +38,16 @@ use Rattle.plate_model.proofs.numbers.Lists.{length-listTo, getD-listTo
 use Rattle.plate_model.proofs.laying.Cells.{cell-lt, laid, laid-outside}
 use Rattle.plate_model.proofs.laying.LaidCells.{wrapped-low, length-lay, lay-wrapped, on-cell-scaled}
 use Rattle.plate_model.proofs.mending.Reached.{not-reached}
-use Rattle.plate_model.proofs.demands.PlainSums.{LaidAs, InPicture, in-light, in-matte, stored-in, stored-out, stored-as, finish-laid}
+use Rattle.plate_model.proofs.demands.PlainSums.{LaidAs, InPicture, in-light, in-matte, stored-in, stored-out, stored-as}
+use Rattle.plate_model.proofs.demands.PlainSums.{finish-laid}
 
 -- SUMS ARE LINEAR
 -- marks laid on planes: the sums are those of the planes, and beside them those of the marks
-laid-sum : (z : Size) (planes : List ℕ) → length planes ≡ planesInAll * padded z → (p : ℕ) → p ≤ planesEach → (all own : List Mark)
+laid-sum : (z : Size) (planes : List ℕ) → length planes ≡ planesInAll * padded z → (p : ℕ) → p ≤ planesEach
+    → (all own : List Mark)
     → LaidAs z p all own → ((d x y : ℕ) → (x < wide z → y < high z → ⊥) → planesOf own d x y ≡ 0)
-    → (j : ℕ) → sumAt z (layAll z planes all) p j ≡ (sumAt z planes p j + finish (planesOf own) (columnOf z j) (rowOf z j)) % 2 ^ 64
+    → (j : ℕ) → sumAt z (layAll z planes all) p j
+    ≡ (sumAt z planes p j + finish (planesOf own) (columnOf z j) (rowOf z j)) % 2 ^ 64
 unfolding sumAt adds add
 laid-sum z planes size p low all own inside outside j =
     finish-cong-planes (stored z (layAll z planes all) p) both (stored-as z (layAll z planes all) p both held none)
@@ -158,8 +163,11 @@ module _ (z : Size) (c : Change) (planes : List ℕ) (ok : Changeable z c (lengt
   unfolding mendedSum
   sum-mended p low worth from i =
       let inside : c .place < places z =
-      rw (ok .change .place-is) (place-within (c .x) (c .y) (z .width) (z .height) (ok .change .column-in) (ok .change .row-in)) in
-      sym (exchanged-sum z planes (c .place) (c .old) (c .new) (ok .change .lawful) (ok .planes-are) inside (ok .change .old-fits) (ok .change .new-fits)
+      rw (ok .change .place-is)
+      (place-within (c .x) (c .y) (z .width) (z .height) (ok .change .column-in) (ok .change .row-in)) in
+      sym
+      (exchanged-sum z planes (c .place) (c .old) (c .new) (ok .change .lawful) (ok .planes-are) inside (ok .change .old-fits)
+      (ok .change .new-fits)
       p low worth from i)
 
   -- and where a cell is out of reach the sums of both plates are the same
@@ -174,7 +182,8 @@ module _ (z : Size) (c : Change) (planes : List ℕ) (ok : Changeable z c (lengt
   light-mended i h = rw (kept-light z planes i h) (sum-mended 0 (omega arith) lightOf (in-light z (ok .change .lawful)) i)
 
   matte-mended : (i : ℕ) → i < places z → mendedMatte z c (canvasOf z planes) i ≡ sumAt z after planesEach i
-  matte-mended i h = rw (kept-matte z planes i h) (sum-mended planesEach (omega arith) matteOf (in-matte z (ok .change .lawful)) i)
+  matte-mended i h =
+      rw (kept-matte z planes i h) (sum-mended planesEach (omega arith) matteOf (in-matte z (ok .change .lawful)) i)
 
   light-still : (i : ℕ) → inReach z c i ≡ false → sumAt z planes 0 i ≡ sumAt z after 0 i
   light-still = sum-still 0 (omega arith) lightOf (in-light z (ok .change .lawful))
@@ -197,7 +206,8 @@ module _ (z : Size) (c : Change) (planes : List ℕ) (ok : Changeable z c (lengt
   shown-mended i h = λ k. shownValue (light-mended i h k) (matte-mended i h k)
 
   shown-still : (i : ℕ) → inReach z c i ≡ false
-      → shownValue (sumAt z planes 0 i) (sumAt z planes planesEach i) ≡ shownValue (sumAt z after 0 i) (sumAt z after planesEach i)
+      → shownValue (sumAt z planes 0 i) (sumAt z planes planesEach i)
+      ≡ shownValue (sumAt z after 0 i) (sumAt z after planesEach i)
   shown-still i e = λ k. shownValue (light-still i e k) (matte-still i e k)
 
   -- sums and pictures of the plate, mended, are those of the plate after the change

@@ -30,7 +30,8 @@ use Rattle.plate_model.specs.Word.{Fits}
 use Rattle.plate_model.proofs.laying.LaidCells.{length-lay-grid, lay-grid-cell}
 use Rattle.plate_model.proofs.numbers.Lists.{getD-same, getD-zeros, length-listTo, getD-listTo, listTo-each, empty-words}
 use Rattle.plate_model.proofs.demands.Logs.{logBy, log-length}
-use Rattle.plate_model.proofs.demands.Mirror.{PileFits, Mirrored, heldBy, mirror, Agree, lent-kept, count-kept, agree-refused}
+use Rattle.plate_model.proofs.demands.Mirror.{PileFits, Mirrored, heldBy, mirror, Agree, lent-kept, count-kept}
+use Rattle.plate_model.proofs.demands.Mirror.{agree-refused}
 use Rattle.kernels_model.specs.Fixed.{planesEach}
 
 pub empty-fits : (R : ℕ) → Fits R empty
@@ -62,7 +63,8 @@ laid-cell z g m k h =
     (sum-ext-lt _ _ (places z)
     (λ i p. ap (λ (q : Pixel). onCell z k (pixelMarks z i q)) (sym (getD-listTo g (places z) i empty p)))))
 
-module _ (z : Size) (room : ℕ) (planes : List ℕ) (grid : List Pixel) (pile : List Entry) (kept : Mirrored z room planes grid pile) where
+module _ (z : Size) (room : ℕ) (planes : List ℕ) (grid : List Pixel) (pile : List Entry)
+    (kept : Mirrored z room planes grid pile) where
   fill-done : (o : Lens) (n : ℕ) (f : Inputs) → ((i : ℕ) → getD (f .opacities) i 0 < 256) → layerCheck o n f ≡ Accepted
       → Agree z room
       (stepOf (fillBy Accepted (stateOf z (length pile)) o n f (heldBy room planes grid pile)))

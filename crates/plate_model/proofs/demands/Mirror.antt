@@ -10,14 +10,16 @@ use Rattle.kernels_model.proofs.numbers.Choices.{by-lt}
 use Rattle.kernels_model.proofs.sums.FiniteSums.{sum-ext-lt}
 use Rattle.plate_model.specs.Layout.{Size, padded, places}
 use Rattle.plate_model.specs.Word.{Pixel, wordOf, Entry, loggedAs}
-use Rattle.plate_model.specs.Refusal.{Refusal, LogEmpty, Outcome, Accepted, Refused, refuseIf, countCheck, emptyCheck, askCheck, putCheck, undoCheck, plateCheck}
+use Rattle.plate_model.specs.Refusal.{Refusal, LogEmpty, Outcome, Accepted, Refused, refuseIf, countCheck, emptyCheck}
+use Rattle.plate_model.specs.Refusal.{askCheck, putCheck, undoCheck, plateCheck}
 use Rattle.plate_model.specs.Lent.{stateOf, Lent, lent, lengthsOf, Ask}
 use Rattle.plate_model.specs.Marks.{pixelMarks, onCell, exchanged}
 use Rattle.plate_model.specs.Calls.{refused, putBy, putCall, undoBy, undoCall, changed}
 use Rattle.plate_model.specs.Asked.{askedPlace, askedPixel}
 use Rattle.plate_model.specs.Change.{putOver, undoOver, undoEntry, putRead, undoRead, putReadBy, undoReadBy}
 use Rattle.plate_model.specs.Plain.{pixelAt, gridCell}
-use Rattle.plate_model.specs.Notebook.{bookOf, Report, BookLeft, bookLeft, bookRefused, bookPutBy, bookPut, bookUndoOf, bookUndo}
+use Rattle.plate_model.specs.Notebook.{bookOf, Report, BookLeft, bookLeft, bookRefused, bookPutBy, bookPut, bookUndoOf}
+use Rattle.plate_model.specs.Notebook.{bookUndo}
 use Rattle.plate_model.specs.Lists.{Plate, Step, stepOf}
 use Rattle.plate_model.proofs.checks.Rows.{check-passes}
 use Rattle.plate_model.proofs.checks.Conditions.{empty-checks}
@@ -116,7 +118,8 @@ one-changed z room planes grid pile pile' i new kept h fits height pile-fits =
     }
 
 -- STEPS
-module _ (z : Size) (room : ℕ) (planes : List ℕ) (grid : List Pixel) (pile : List Entry) (kept : Mirrored z room planes grid pile) where
+module _ (z : Size) (room : ℕ) (planes : List ℕ) (grid : List Pixel) (pile : List Entry)
+    (kept : Mirrored z room planes grid pile) where
   -- "2 comes there only from these, and 1, 3 and 10 are never given"
   pub lent-kept : LentFor z (lengthsOf (heldBy room planes grid pile))
   lent-kept =
@@ -178,7 +181,8 @@ module _ (z : Size) (room : ℕ) (planes : List ℕ) (grid : List Pixel) (pile :
         same-plate = plate-eq z (exchanged z i old new planes) more (sym (map-set wordOf grid i new))
             (ap (λ (w : ℕ). set (logBy room pile) (length pile) (loggedAs w i)) (word-at grid i));
         same-book = refl;
-        kept = one-changed z room planes grid pile (record { place = i; pixel = old } ∷ pile) i new kept (ok .place-in) fits height
+        kept =
+            one-changed z room planes grid pile (record { place = i; pixel = old } ∷ pile) i new kept (ok .place-in) fits height
             (ok .place-in, kept .grid-fits i, kept .pile-fits);
       })
 
@@ -229,20 +233,24 @@ undo-done z room planes grid e pile kept =
           (omega (arith, kept .height-fits)) (fits .2);
     })
 
-undo-agrees-by : (z : Size) (room : ℕ) (planes : List ℕ) (grid : List Pixel) (pile : List Entry) → Mirrored z room planes grid pile →
+undo-agrees-by : (z : Size) (room : ℕ) (planes : List ℕ) (grid : List Pixel) (pile : List Entry)
+    → Mirrored z room planes grid pile →
     let s = stateOf z (length pile) in
     let l = heldBy room planes grid pile in
-    Agree z room (stepOf (undoBy (undoReadBy (emptyCheck (length pile) Accepted) s (l .pixels) (l .log)) s l)) (bookUndoOf z room grid pile)
+    Agree z room (stepOf (undoBy (undoReadBy (emptyCheck (length pile) Accepted) s (l .pixels) (l .log)) s l))
+    (bookUndoOf z room grid pile)
 undo-agrees-by z room planes grid [] kept =
     unfold undoBy undoReadBy bookUndoOf refuseIf in (agree-refused z room planes grid [] kept LogEmpty)
 undo-agrees-by z room planes grid (e ∷ pile) kept =
     rw (check-passes (empty-checks (suc (length pile))) Accepted (omega arith))
     (undo-done z room planes grid e pile kept)
 
-pub undo-agrees : (z : Size) (room : ℕ) (planes : List ℕ) (grid : List Pixel) (pile : List Entry) → Mirrored z room planes grid pile
+pub undo-agrees : (z : Size) (room : ℕ) (planes : List ℕ) (grid : List Pixel) (pile : List Entry)
+    → Mirrored z room planes grid pile
     → Agree z room
     (stepOf (undoCall (stateOf z (length pile)) (heldBy room planes grid pile)))
     (bookUndo (bookOf z room grid pile))
 unfolding undoCall undoRead undoCheck bookUndo
 undo-agrees z room planes grid pile kept =
-    rw (checks-kept z room planes grid pile kept (emptyCheck (length pile) Accepted)) (undo-agrees-by z room planes grid pile kept)
+    rw (checks-kept z room planes grid pile kept (emptyCheck (length pile) Accepted))
+    (undo-agrees-by z room planes grid pile kept)

@@ -9,14 +9,17 @@ use Rattle.kernels_model.specs.Fixed.{planesEach}
 use Rattle.plate_model.specs.Layout.{Size, places, sumsInAll}
 use Rattle.plate_model.specs.Lent.{State, Ask, ask, Lent, lengthsOf, Views, Canvas, canvas}
 use Rattle.plate_model.specs.Marks.{exchanged}
-use Rattle.plate_model.specs.Refusal.{Refusal, Outcome, Accepted, Refused, outcomeNumber, canvasCheck, openCheck, showCheck, showKeptCheck, keptCheck}
+use Rattle.plate_model.specs.Refusal.{Refusal, Outcome, Accepted, Refused, outcomeNumber, canvasCheck, openCheck, showCheck}
+use Rattle.plate_model.specs.Refusal.{showKeptCheck, keptCheck}
 use Rattle.plate_model.specs.Change.{Change, ChangeRead, ToChange, NoChange}
 use Rattle.plate_model.specs.Listed.{listTo}
 use Rattle.plate_model.specs.Calls.{openCall, changed, putBy, putCall, undoBy, undoCall, sumAt, showBy}
 use Rattle.plate_model.specs.Plain.{plainSums, plainValues, plainMattes}
 use Rattle.plate_model.specs.Notebook.{openBook}
-use Rattle.plate_model.specs.Kept.{keptRead, canvasFirst, canvasBy, putKeptBy, putKeptCall, undoKeptBy, undoKeptCall, sumsOf, sumsBy, showKeptBy, showKeptCall}
-use Rattle.plate_model.specs.Painting.{canvasOf, StaysFresh, KeptCall, keptPut, keptUndo, Painting, paint, paintAll, shownCanvas, shownPainting, AsMuch, PaintsFresh, firstForm, PaintsPlain}
+use Rattle.plate_model.specs.Kept.{keptRead, canvasFirst, canvasBy, putKeptBy, putKeptCall, undoKeptBy, undoKeptCall}
+use Rattle.plate_model.specs.Kept.{sumsOf, sumsBy, showKeptBy, showKeptCall}
+use Rattle.plate_model.specs.Painting.{canvasOf, StaysFresh, KeptCall, keptPut, keptUndo, Painting, paint, paintAll}
+use Rattle.plate_model.specs.Painting.{shownCanvas, shownPainting, AsMuch, PaintsFresh, firstForm, PaintsPlain}
 use Rattle.plate_model.specs.Lists.{Call, Plate, leftBy, plateStep, plateAfter, bookAfter}
 use Rattle.plate_model.specs.Table.{LawfulSize}
 use Rattle.plate_model.specs.Ready.{Changeable}
@@ -106,7 +109,8 @@ paint-canvas p (keptPut x y v a s r) e =
 paint-canvas p keptUndo e = rw e (undo-fresh (p .plate .state) (p .plate .buffers))
 
 paint-fresh : (p : Painting) (d : KeptCall) → Fresh p → Fresh (paint p d)
-paint-fresh p d e = paint-canvas p d e ∙ ap (λ (z : Size). canvasOf z (paint p d .plate .buffers .planes)) (sym (paint-still p d .0))
+paint-fresh p d e = paint-canvas p d e
+    ∙ ap (λ (z : Size). canvasOf z (paint p d .plate .buffers .planes)) (sym (paint-still p d .0))
 
 -- and so does a list of them
 paints-kept : (p : Painting) (changes : List KeptCall) → Fresh p → Fresh (paintAll p changes)

@@ -12,9 +12,11 @@ use Rattle.plate_model.specs.Fixed.{scratchPlanes}
 use Rattle.plate_model.specs.Layout.{Size, padded, places, sumsInAll}
 use Rattle.plate_model.specs.Word.{Pixel, Entry}
 use Rattle.plate_model.specs.Lent.{Ask, ask, Inputs, inputs, Views, Canvas}
-use Rattle.plate_model.specs.Refusal.{Refusal, Lengths, Outcome, Accepted, Refused, refusalNumber, outcomeNumber, askCheck, inputsCheck, layerCheck, viewsCheck, canvasCheck}
+use Rattle.plate_model.specs.Refusal.{Refusal, Lengths, Outcome, Accepted, Refused, refusalNumber, outcomeNumber, askCheck}
+use Rattle.plate_model.specs.Refusal.{inputsCheck, layerCheck, viewsCheck, canvasCheck}
 use Rattle.plate_model.specs.Table.{InputsWrong, SeenWrong, SumsWrong, CanvasWrong}
-use Rattle.plate_model.specs.Notebook.{Book, bookPutBy, bookPut, bookUndoOf, bookUndo, bookFillBy, bookFill, bookShowBy, bookShow, BookLeft, bookKept, bookPutKept, bookUndoKept, bookShowKept}
+use Rattle.plate_model.specs.Notebook.{Book, bookPutBy, bookPut, bookUndoOf, bookUndo, bookFillBy, bookFill, bookShowBy}
+use Rattle.plate_model.specs.Notebook.{bookShow, BookLeft, bookKept, bookPutKept, bookUndoKept, bookShowKept}
 use Rattle.plate_model.specs.Lists.{codes, Call, putIt, undoIt, fillIt, showIt, putKeptIt, undoKeptIt, showKeptIt, bookStep}
 use Rattle.plate_model.specs.ListRefusals.{OwnLentWrong, GivenInList, ListsRefused}
 use Rattle.plate_model.proofs.checks.Rows.{OutcomeBy, Checks, by-check, checks-both}

@@ -15,8 +15,11 @@ use Rattle.plate_model.specs.Refusal.{Refusal, refusalNumber, Outcome, A
 use Rattle.plate_model.specs.Lent.{Ask, ask, Inputs, inputs, Views}
 use Rattle.plate_model.specs.Asked.{askedPlace, askedPixel, knownShape}
 use Rattle.plate_model.specs.Plain.{pixelAt}
-use Rattle.plate_model.specs.Notebook.{Book, bookOf, Report, plain, bookPutBy, bookPut, bookUndoOf, bookUndo, bookFillBy, bookFill, bookShowBy, bookShow, BookLeft, bookKept, bookPutKept, bookUndoKept, bookShowKept}
-use Rattle.plate_model.specs.Lists.{Byte, codes, Call, putIt, undoIt, fillIt, showIt, putKeptIt, undoKeptIt, showKeptIt, plateStep, bookStep}
+use Rattle.plate_model.specs.Notebook.{Book, bookOf, Report, plain, bookPutBy, bookPut, bookUndoOf, bookUndo, bookFillBy}
+use Rattle.plate_model.specs.Notebook.{bookFill, bookShowBy, bookShow, BookLeft, bookKept, bookPutKept, bookUndoKept}
+use Rattle.plate_model.specs.Notebook.{bookShowKept}
+use Rattle.plate_model.specs.Lists.{Byte, codes, Call, putIt, undoIt, fillIt, showIt, putKeptIt, undoKeptIt, showKeptIt}
+use Rattle.plate_model.specs.Lists.{plateStep, bookStep}
 use Rattle.plate_model.specs.Counts.{Few, CountOf, ListsCounted}
 use Rattle.plate_model.proofs.checks.Rows.{refusal-some}
 use Rattle.plate_model.proofs.demands.EachReports.{in-lists}

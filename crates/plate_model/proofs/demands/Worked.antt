@@ -9,12 +9,14 @@ use Rattle.kernels_model.specs.Sum.{sum}
 use Rattle.kernels_model.specs.Tap.{tap, area, shareFor, restFor, weight}
 use Rattle.kernels_model.specs.Rounding.{nearest, nearestEven, shownValue, shownMatte}
 use Rattle.plate_model.specs.Layout.{Size}
-use Rattle.plate_model.specs.Refusal.{Accepted, refuseIf, sizesCheck, lentCheck, placeCheck, shapeCheck, radiusCheck, askCheck, viewsCheck, openCheck}
+use Rattle.plate_model.specs.Refusal.{Accepted, refuseIf, sizesCheck, lentCheck, placeCheck, shapeCheck, radiusCheck}
+use Rattle.plate_model.specs.Refusal.{askCheck, viewsCheck, openCheck}
 use Rattle.plate_model.specs.Lent.{Lent, lent, lengthsOf, Views, views}
 use Rattle.plate_model.specs.Listed.{zeros, listTo}
 use Rattle.plate_model.specs.Calls.{openCall}
 use Rattle.plate_model.specs.Plain.{plainSum, plainValues, plainMattes}
-use Rattle.plate_model.specs.Notebook.{openBook, both, Report, plain, bookPutBy, bookPut, bookUndoOf, bookUndo, bookShowBy, bookShow}
+use Rattle.plate_model.specs.Notebook.{openBook, both, Report, plain, bookPutBy, bookPut, bookUndoOf, bookUndo, bookShowBy}
+use Rattle.plate_model.specs.Notebook.{bookShow}
 use Rattle.plate_model.specs.Lists.{Byte, Call, putIt, undoIt, showIt, leftBy, plateReports, bookStep, bookReports}
 use Rattle.plate_model.proofs.demands.Demand.{demand-3}
 
@@ -56,7 +58,9 @@ runReports =
     ∷ []
 
 pub book-run : bookReports (openBook threeByOne 64) run ≡ runReports
-unfolding bookReports bookStep bookPut bookPutBy bookUndo bookUndoOf bookShow bookShowBy askCheck placeCheck shapeCheck radiusCheck refuseIf viewsCheck plainValues plainMattes plainSum listTo weight shareFor restFor area tap sum within same shownValue shownMatte nearest nearestEven
+unfolding bookReports bookStep bookPut bookPutBy bookUndo bookUndoOf bookShow bookShowBy askCheck placeCheck shapeCheck
+    radiusCheck refuseIf viewsCheck plainValues plainMattes plainSum listTo weight shareFor restFor area tap sum within same
+    shownValue shownMatte nearest nearestEven
 book-run = refl
 
 open-accepted : openCheck threeByOne (lengthsOf buffers) ≡ Accepted

@@ -9,20 +9,24 @@ use borrow.Author.Tests.{ltb-true}
 use Rattle.kernels_model.specs.Choice.{pick, within, same}
 use Rattle.kernels_model.specs.Sum.{sum}
 use Rattle.kernels_model.specs.Tap.{boxTap, box, convolved, one, shift, tap, area, shareFor, restFor, weight}
-use Rattle.kernels_model.specs.Mark.{minus, sign, choose, marksTo, boxGrid, boxMarks, lineMarks, flipped, outlineMarks, hexagonMarks, tapMarks, scaled, centreMarks, marks}
+use Rattle.kernels_model.specs.Mark.{minus, sign, choose, marksTo, boxGrid, boxMarks, lineMarks, flipped, outlineMarks}
+use Rattle.kernels_model.specs.Mark.{hexagonMarks, tapMarks, scaled, centreMarks, marks}
 use Rattle.kernels_model.specs.Rounding.{nearest, nearestEven, shownValue, shownMatte}
 use Rattle.kernels_model.specs.Lens.{lawfulLens, blur}
 use Rattle.plate_model.specs.Word.{wordOf}
-use Rattle.plate_model.specs.Refusal.{Accepted, refuseIf, sizesCheck, lentCheck, placeCheck, shapeCheck, radiusCheck, askCheck, inputsCheck, layerCheck, anyOf, isBetween, viewsCheck, openCheck}
+use Rattle.plate_model.specs.Refusal.{Accepted, refuseIf, sizesCheck, lentCheck, placeCheck, shapeCheck, radiusCheck}
+use Rattle.plate_model.specs.Refusal.{askCheck, inputsCheck, layerCheck, anyOf, isBetween, viewsCheck, openCheck}
 use Rattle.plate_model.specs.Lent.{Lent, LentLengths, lentLengths, lengthsOf}
 use Rattle.plate_model.specs.Listed.{listTo}
 use Rattle.plate_model.specs.Asked.{filled}
 use Rattle.plate_model.specs.Calls.{openCall}
 use Rattle.plate_model.specs.Marks.{inBoth, pixelMarks, onCell}
 use Rattle.plate_model.specs.Plain.{plainSum, plainValues, plainMattes, gridCell}
-use Rattle.plate_model.specs.Notebook.{openBook, Report, bookPutBy, bookPut, bookUndoOf, bookUndo, bookFillBy, bookFill, bookShowBy, bookShow, fromBottom, logOf}
+use Rattle.plate_model.specs.Notebook.{openBook, Report, bookPutBy, bookPut, bookUndoOf, bookUndo, bookFillBy, bookFill}
+use Rattle.plate_model.specs.Notebook.{bookShowBy, bookShow, fromBottom, logOf}
 use Rattle.plate_model.specs.Lists.{Call, leftBy, plateReports, plateAfter, bookStep, bookReports, bookAfter, Holds}
-use Rattle.plate_model.specs.Worked.{fourByThree, roomForFive, Gives, puts, putReports, putWords, putLog, layer, layerReports, layerWords, layerLog, hexagon, hexagonCells, Worked}
+use Rattle.plate_model.specs.Worked.{fourByThree, roomForFive, Gives, puts, putReports, putWords, putLog, layer}
+use Rattle.plate_model.specs.Worked.{layerReports, layerWords, layerLog, hexagon, hexagonCells, Worked}
 use Rattle.kernels_model.proofs.numbers.Choices.{by-test}
 use Rattle.plate_model.proofs.checks.Conditions.{true-not}
 use Rattle.plate_model.proofs.demands.Demand.{demand-3}
@@ -64,27 +68,36 @@ gives calls reports words log count told (are-words, (room, (are-entries, height
 
 -- PUTS AND AN UNDO
 put-reports : bookReports (openBook fourByThree roomForFive) puts ≡ putReports
-unfolding bookReports bookStep bookPut bookPutBy bookUndo bookUndoOf bookShow bookShowBy askCheck placeCheck shapeCheck radiusCheck refuseIf viewsCheck plainValues plainMattes plainSum listTo weight shareFor restFor area tap boxTap box convolved one shift sum within same shownValue shownMatte nearest nearestEven
+unfolding bookReports bookStep bookPut bookPutBy bookUndo bookUndoOf bookShow bookShowBy askCheck placeCheck shapeCheck
+    radiusCheck refuseIf viewsCheck plainValues plainMattes plainSum listTo weight shareFor restFor area tap boxTap box convolved
+    one shift sum within same shownValue shownMatte nearest nearestEven
 put-reports = refl
 
 put-left : LeftAs puts putWords putLog 3
-unfolding bookAfter bookStep bookPut bookPutBy bookUndo bookUndoOf bookShow bookShowBy askCheck placeCheck shapeCheck radiusCheck refuseIf viewsCheck logOf fromBottom
+unfolding bookAfter bookStep bookPut bookPutBy bookUndo bookUndoOf bookShow bookShowBy askCheck placeCheck shapeCheck radiusCheck
+    refuseIf viewsCheck logOf fromBottom
 put-left = (refl, (refl, (refl, refl)))
 
 -- A FILL
 layer-reports : bookReports (openBook fourByThree roomForFive) layer ≡ layerReports
-unfolding bookReports bookStep bookPut bookPutBy bookUndo bookUndoOf bookFill bookFillBy bookShow bookShowBy askCheck placeCheck shapeCheck radiusCheck refuseIf inputsCheck layerCheck anyOf isBetween lawfulLens filled blur viewsCheck plainValues plainMattes plainSum listTo weight shareFor restFor area tap sum within same shownValue shownMatte nearest nearestEven
+unfolding bookReports bookStep bookPut bookPutBy bookUndo bookUndoOf bookFill bookFillBy bookShow bookShowBy askCheck placeCheck
+    shapeCheck radiusCheck refuseIf inputsCheck layerCheck anyOf isBetween lawfulLens filled blur viewsCheck plainValues
+    plainMattes plainSum listTo weight shareFor restFor area tap sum within same shownValue shownMatte nearest nearestEven
 layer-reports = refl
 
 layer-left : LeftAs layer layerWords layerLog 0
-unfolding bookAfter bookStep bookPut bookPutBy bookUndo bookUndoOf bookFill bookFillBy bookShow bookShowBy askCheck placeCheck shapeCheck radiusCheck refuseIf inputsCheck layerCheck anyOf isBetween lawfulLens filled blur nearest viewsCheck listTo logOf fromBottom
+unfolding bookAfter bookStep bookPut bookPutBy bookUndo bookUndoOf bookFill bookFillBy bookShow bookShowBy askCheck placeCheck
+    shapeCheck radiusCheck refuseIf inputsCheck layerCheck anyOf isBetween lawfulLens filled blur nearest viewsCheck listTo logOf
+    fromBottom
 layer-left = (refl, (refl, (refl, refl)))
 
 -- MARKS
 hexagon-cells :
     let grid = bookAfter (openBook fourByThree roomForFive) hexagon .grid in
     map (λ (c : ℕ × ℕ). gridCell fourByThree grid (c .0)) hexagonCells ≡ map (λ (c : ℕ × ℕ). c .1) hexagonCells
-unfolding bookAfter bookStep bookPut bookPutBy askCheck placeCheck shapeCheck radiusCheck refuseIf gridCell onCell pixelMarks inBoth marks tapMarks hexagonMarks outlineMarks lineMarks flipped centreMarks scaled boxMarks boxGrid marksTo choose sign minus shareFor restFor area tap sum within same
+unfolding bookAfter bookStep bookPut bookPutBy askCheck placeCheck shapeCheck radiusCheck refuseIf gridCell onCell pixelMarks
+    inBoth marks tapMarks hexagonMarks outlineMarks lineMarks flipped centreMarks scaled boxMarks boxGrid marksTo choose sign
+    minus shareFor restFor area tap sum within same
 hexagon-cells = refl
 
 -- each of them is a cell of the planes

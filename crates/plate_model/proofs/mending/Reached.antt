@@ -70,4 +70,5 @@ pub row-not-reached : (z : Size) (c : Change) (i reach : ℕ) → reachOf (c .ol
     → reachOf (c .new .shape) (c .new .radius) ≤ reach → reach < dist (i / z .width) (c .place / z .width)
     → inReach z c i ≡ true → ⊥
 row-not-reached z c i reach p q h =
-    no-tap-reaches z c i (far-y (c .old .shape) (c .old .radius) _ _ (omega arith)) (far-y (c .new .shape) (c .new .radius) _ _ (omega arith))
+    no-tap-reaches z c i (far-y (c .old .shape) (c .old .radius) _ _ (omega arith))
+    (far-y (c .new .shape) (c .new .radius) _ _ (omega arith))

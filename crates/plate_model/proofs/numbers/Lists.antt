@@ -3,7 +3,8 @@ use mathlib.Core.Path.{_≡_, refl, sym, ap, _∙_}
 use mathlib.Core.List.{List, [], _∷_, _++_, map}
 use Prim.Native.Nat.{ℕ, zero, suc, _+_, _*_, _-_, _<_}
 use native.Mathlib.Omega.{arith}
-use lib.ListN.{getD, set, length, replicate, length-replicate, length-append, getD-replicate, List·getD-append, List·getD-eq-default, List·getD-map}
+use lib.ListN.{getD, set, length, replicate, length-replicate, length-append, getD-replicate, List·getD-append}
+use lib.ListN.{List·getD-eq-default, List·getD-map}
 use lib.Seq.{ext-getD, getD-append-add, getD-set-same, getD-set-other, set-out}
 use Rattle.kernels_model.proofs.numbers.Choices.{by-lt, by-eq}
 use Rattle.plate_model.specs.Word.{Pixel, empty, wordOf}
@@ -56,7 +57,8 @@ two-lists l f g n e one two =
     ext-getD 0 l (listTo f n ++ listTo g n)
     (e ∙ sym (length-append (listTo f n) (listTo g n) ∙ omega (arith, length-listTo f n, length-listTo g n)))
     (λ i h. by-lt i n
-    (λ a. one i a ∙ sym (List·getD-append (listTo f n) (listTo g n) 0 i (omega (arith, length-listTo f n)) ∙ getD-listTo f n i 0 a))
+    (λ a. one i a ∙ sym (List·getD-append (listTo f n) (listTo g n) 0 i (omega (arith, length-listTo f n))
+    ∙ getD-listTo f n i 0 a))
     (λ a.
     let b : i - n < n = omega arith in
     let s : i ≡ n + (i - n) = omega arith in

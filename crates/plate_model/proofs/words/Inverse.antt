@@ -6,7 +6,8 @@ use Rattle.plate_model.specs.Layout.{Size}
 use Rattle.plate_model.specs.Word.{Broken, readWord, Unreadable, readEntry}
 use Rattle.plate_model.specs.Table.{WordBroken, EntryBroken}
 use Rattle.plate_model.specs.WordFacts.{WordsInverse, EntriesInverse}
-use Rattle.plate_model.proofs.words.Words.{broken-not, read-back, read-fits, read-word, unreadable-not, entry-back, entry-read}
+use Rattle.plate_model.proofs.words.Words.{broken-not, read-back, read-fits, read-word, unreadable-not, entry-back}
+use Rattle.plate_model.proofs.words.Words.{entry-read}
 use Rattle.plate_model.proofs.words.Stored.{WordTold, word-told, EntryTold, entry-told}
 
 -- WORDS

@@ -13,7 +13,8 @@ use Rattle.kernels_model.specs.declared.shape.ShapeRead.the-variants.{Known, Un
 use Rattle.kernels_model.specs.Shape.{numberOf, shapeOf, topUnder}
 use Rattle.kernels_model.proofs.taps.ShapeNumbers.{number-le, number-back, top-small}
 use Rattle.plate_model.specs.Layout.{Size, places}
-use Rattle.plate_model.specs.Word.{Pixel, wordOf, Unpacked, Whole, Broken, pixelIn, readWord, Entry, entryOf, Logged, Unreadable, entryIn, readEntry}
+use Rattle.plate_model.specs.Word.{Pixel, wordOf, Unpacked, Whole, Broken, pixelIn, readWord, Entry, entryOf, Logged}
+use Rattle.plate_model.specs.Word.{Unreadable, entryIn, readEntry}
 use Rattle.plate_model.specs.Word.{Fits}
 use Rattle.plate_model.specs.Fixed.{wordBits}
 
@@ -99,7 +100,8 @@ reads : (R w : ℕ) (p : Pixel) → readWord R w ≡ Whole p → Reads R w p
 unfolding readWord
 reads R w p e = low (leb (2 ^ wordBits) w) refl e
   where
-    top : (s : Shape) (t : Bool) → ltb (topUnder s R) (w / 2 ^ 24 % 256) ≡ t → w < 2 ^ wordBits → shapeOf (w / 2 ^ 20 % 16) ≡ Known s
+    top : (s : Shape) (t : Bool) → ltb (topUnder s R) (w / 2 ^ 24 % 256) ≡ t → w < 2 ^ wordBits
+        → shapeOf (w / 2 ^ 20 % 16) ≡ Known s
         → pick t Broken
         (Whole (record { value = w % 2 ^ 12; opacity = w / 2 ^ 12 % 256; shape = s; radius = w / 2 ^ 24 % 256 })) ≡ Whole p
         → Reads R w p
@@ -183,7 +185,8 @@ pub entry-read : (z : Size) (n : ℕ) (e : Entry) → readEntry z n ≡ Logged e
 unfolding readEntry
 entry-read z n e h = high (leb (places z) (n / 2 ^ wordBits)) refl h
   where
-    whole : (u : Unpacked) → readWord (z .reach) (n % 2 ^ wordBits) ≡ u → n / 2 ^ wordBits < places z → entryIn (n / 2 ^ wordBits) u ≡ Logged e
+    whole : (u : Unpacked) → readWord (z .reach) (n % 2 ^ wordBits) ≡ u → n / 2 ^ wordBits < places z
+        → entryIn (n / 2 ^ wordBits) u ≡ Logged e
         → (e .place < places z) × Fits (z .reach) (e .pixel) × (entryOf e ≡ n)
     whole Broken q l h = unreadable-not e h
     whole (Whole p) q l h =

@@ -22,8 +22,8 @@ lawful c = sizes-passed _ Accepted (sym (c .before .before .check-sizes .ensures
 returns : tie.Need-returns
 unfolding keptCheck
 returns c =
-    let lentLengths = c .before .before in
-    rw (sizes-before (lentLengths .before .args .size) Accepted _, ← lentLengths .check-sizes .ensures, c .enum-told2 .given .1)
+    let sizes = c .before .before in
+    rw (sizes-before (sizes .before .args .size) Accepted _, ← sizes .check-sizes .ensures, c .enum-told2 .given .1)
 
 mul-places : tie.Need-mul-places
 mul-places c =

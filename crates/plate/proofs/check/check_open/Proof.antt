@@ -12,8 +12,8 @@ use Rattle.plate_model.specs.Lent.{lentLengths}
 returns : tie.Need-returns
 unfolding openCheck
 returns c =
-    let lentLengths = c .before .before in
-    rw (sizes-before (lentLengths .before .args .size) Accepted _, ← lentLengths .check-sizes .ensures, c .enum-told2 .given .1)
+    let sizes = c .before .before in
+    rw (sizes-before (sizes .before .args .size) Accepted _, ← sizes .check-sizes .ensures, c .enum-told2 .given .1)
 
 check-lent-requires : tie.Need-check-lent-requires
 check-lent-requires c κs =
@@ -22,10 +22,10 @@ check-lent-requires c κs =
 returns-2 : tie.Need-returns-2
 unfolding openCheck
 returns-2 c =
-    let lentLengths = c .before .before .before in
+    let sizes = c .before .before .before in
     rw (
-      sizes-before (lentLengths .before .args .size) Accepted _,
-      ← lentLengths .check-sizes .ensures,
+      sizes-before (sizes .before .args .size) Accepted _,
+      ← sizes .check-sizes .ensures,
       c .before .enum-told .given .1,
     )
     (c .check-lent .ensures)

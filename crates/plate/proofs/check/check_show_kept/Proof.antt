@@ -22,8 +22,12 @@ lawful c = sizes-passed _ Accepted (sym (c .before .before .check-sizes .ensures
 returns : tie.Need-returns
 unfolding showKeptCheck
 returns c =
-    let lentLengths = c .before .before in
-    rw (sizes-before (lentLengths .before .before .args .state .size) Accepted _, ← lentLengths .check-sizes .ensures, c .enum-told2 .given .1)
+    let sizes = c .before .before in
+    rw (
+      sizes-before (sizes .before .before .args .state .size) Accepted _,
+      ← sizes .check-sizes .ensures,
+      c .enum-told2 .given .1,
+    )
 
 mul-places : tie.Need-mul-places
 mul-places c =
@@ -45,7 +49,8 @@ returns-3 : tie.Need-returns-3
 unfolding showKeptCheck
 returns-3 c =
     let told = c .before .before .before in
-    rw (sizes-pass (start told .args .state .size) _ (lawful told), length-pass _ _ _ (c .before .if1 .left)) (c .check-show .ensures)
+    rw (sizes-pass (start told .args .state .size) _ (lawful told), length-pass _ _ _ (c .before .if1 .left))
+    (c .check-show .ensures)
 
 pub check-show-kept-spec : {M : Type 1} → statement M
 check-show-kept-spec =

@@ -28,8 +28,8 @@ cells c = ap (λ (f : Frame). f .padded) (c .frame-of .ensures)
 returns : tie.Need-returns
 unfolding totalCheck
 returns c =
-    let lentLengths = c .before .before in
-    rw (sizes-before (lentLengths .before .args .size) Accepted _, ← lentLengths .check-sizes .ensures, c .enum-told2 .given .1)
+    let sizes = c .before .before in
+    rw (sizes-before (sizes .before .args .size) Accepted _, ← sizes .check-sizes .ensures, c .enum-told2 .given .1)
 
 frame-of-requires : tie.Need-frame-of-requires
 frame-of-requires c κs = lawful c

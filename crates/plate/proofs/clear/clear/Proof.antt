@@ -1,4 +1,4 @@
--- After i turns the first i cells are 0 and the rest are as they were; after the last iteration there is no rest.
+-- After i iterations the first i cells are 0 and the rest are as they were; after the last iteration there is no rest.
 use mathlib.Core.Path.{_≡_, refl, _∙_}
 use mathlib.Core.List.{_++_, append-nil}
 use Prim.Native.Nat.{_-_, _≤_}

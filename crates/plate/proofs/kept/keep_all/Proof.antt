@@ -17,7 +17,8 @@ abbrev start : tie.After-light-channel → tie.Start
 start c = c .before .before .before .before .before .before .before
 
 -- both channels' sums fit into the scratch
-fits : (c : tie.After-light-channel) → BothIn (c .light-channel .result) (start c .args .scratch .now) (start c .args .planes .now)
+fits : (c : tie.After-light-channel)
+    → BothIn (c .light-channel .result) (start c .args .scratch .now) (start c .args .planes .now)
 fits c = ready-both _ _ _ _ (c .light-channel .ensures) (start c .pre .show .sums)
 
 -- back from the rows above the image, and from those of the image
@@ -32,7 +33,8 @@ abbrev kept : tie.After-struct-known2 → tie.After-keep-rows
 kept c = c .before .before .before .before .before
 
 -- there are as many sums as there were
-same-sums : (c : tie.After-struct-known2) → length (kept c .keep-rows .last .0) ≡ sumsInAll (start (made (summed (kept c))) .args .state .size)
+same-sums : (c : tie.After-struct-known2)
+    → length (kept c .keep-rows .last .0) ≡ sumsInAll (start (made (summed (kept c))) .args .state .size)
 same-sums c =
     omega (arith, c .before .before .before .before .sums .given, start (made (summed (kept c))) .pre .sums-are)
 

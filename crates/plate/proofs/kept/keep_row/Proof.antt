@@ -80,7 +80,8 @@ loop-again c =
     let a = start test .args in
     let pre = start test .pre in (
       omega (arith, test .loop-test .taken),
-      keeping-next (a .scratch .now) _ (iteration .sums) (a .light) (a .matte) _ _ _ (iteration .x) (pre .first-in) (pre .second-in)
+      keeping-next (a .scratch .now) _ (iteration .sums) (a .light) (a .matte) _ _ _ (iteration .x) (pre .first-in)
+          (pre .second-in)
           (test .loop-test .taken) (iteration .inv .1),
     )
 

@@ -50,11 +50,14 @@ mend-requires : tie.Need-mend-requires
 mend-requires c κs =
     let change = c .before .before .before .before in
     let s = start (change .before .before) in
-    mend-ready _ _ _ (kept s) (put-ready (s .args .state) (asked s) (held s) (omega (arith, s .good)) _ (reads change) .changeable) (checked (change .before .before))
+    mend-ready _ _ _ (kept s)
+    (put-ready (s .args .state) (asked s) (held s) (omega (arith, s .good)) _ (reads change) .changeable)
+    (checked (change .before .before))
 
 log-and-exchange-requires : tie.Need-log-and-exchange-requires
 log-and-exchange-requires c κs =
-    let change = c .before .before .before .before .before .before .before .before .before .before .before .before .before .before in
+    let mended = c .before .before .before .before .before .before .before in
+    let change = mended .before .before .before .before .before .before .before in
     let s = start (change .before .before) in
     put-ready (s .args .state) (asked s) (held s) (omega (arith, s .good)) _ (reads change)
 

@@ -17,7 +17,8 @@ start c = c .before .before .before .before .before .before .before .before
 -- the check passed
 passed : (c : tie.After-enum-told)
     → let a = start c .args in
-    showKeptCheck (a .state) (length (now (a .planes))) (length (now (a .scratch))) (length (now (a .values))) (length (now (a .mattes)))
+    showKeptCheck (a .state) (length (now (a .planes))) (length (now (a .scratch))) (length (now (a .values)))
+    (length (now (a .mattes)))
     (length (now (a .sums)))
     ≡ Accepted
 passed c = sym (c .before .before .check-show-kept .ensures) ∙ c .enum-told .given .1

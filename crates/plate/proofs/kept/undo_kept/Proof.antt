@@ -43,11 +43,13 @@ mend-requires : tie.Need-mend-requires
 mend-requires c κs =
     let change = c .before .before .before .before in
     let s = start (change .before .before) in
-    mend-ready _ _ _ (kept s) (undo-ready (s .args .state) (held s) _ (reads change) .changeable) (checked (change .before .before))
+    mend-ready _ _ _ (kept s) (undo-ready (s .args .state) (held s) _ (reads change) .changeable)
+    (checked (change .before .before))
 
 unlog-and-exchange-requires : tie.Need-unlog-and-exchange-requires
 unlog-and-exchange-requires c κs =
-    let change = c .before .before .before .before .before .before .before .before .before .before .before .before .before .before in
+    let mended = c .before .before .before .before .before .before .before in
+    let change = mended .before .before .before .before .before .before .before in
     let s = start (change .before .before) in
     undo-ready (s .args .state) (held s) _ (reads change)
 

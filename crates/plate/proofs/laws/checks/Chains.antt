@@ -10,7 +10,8 @@ use Rattle.plate_model.specs.declared.lent.LentLengths.{LentLengths}
 use Rattle.plate_model.specs.Lent.{Inputs}
 use Rattle.plate_model.specs.declared.state.Outcome.{Outcome}
 use Rattle.plate_model.specs.declared.state.Outcome.the-variants.{Accepted}
-use Rattle.plate_model.specs.Refusal.{sizesCheck, lengthCheck, lentCheck, inputsCheck, openCheck, plateCheck, fillFirst, totalCheck}
+use Rattle.plate_model.specs.Refusal.{sizesCheck, lengthCheck, lentCheck, inputsCheck, openCheck, plateCheck, fillFirst}
+use Rattle.plate_model.specs.Refusal.{totalCheck}
 use Rattle.plate.specs.Filling.{fillLengths}
 use Rattle.plate_model.proofs.checks.Rows.{andThen, check-before}
 use Rattle.plate_model.proofs.checks.Conditions.{sizes-checks, lent-checks, inputs-checks, count-checks, total-checks}

@@ -67,7 +67,8 @@ pub record KeptAccepted (z : Size) (sums values mattes : ℕ) : Type 0 where
   pub values-are : values ≡ places z
   pub mattes-are : mattes ≡ places z
 
-pub kept-accepted : (z : Size) (sums values mattes : ℕ) → keptCheck z sums values mattes ≡ Accepted → KeptAccepted z sums values mattes
+pub kept-accepted : (z : Size) (sums values mattes : ℕ) → keptCheck z sums values mattes ≡ Accepted
+    → KeptAccepted z sums values mattes
 unfolding keptCheck canvasCheck
 kept-accepted z sums values mattes e =
     let p = sizes-passed z _ e in

@@ -90,7 +90,8 @@ some-above : (b : ℕ) (ns : List ℕ) → anyOf (isBetween b numberTop) ns ≡ 
 unfolding anyOf
 some-above b [] e = e
 some-above b (n ∷ ns) e =
-    passes-too (isBetween b numberTop n) (anyOf (isBetween b numberTop) ns) (ltb b n) (anyAbove b ns) (between-is b n) (some-above b ns) e
+    passes-too (isBetween b numberTop n) (anyOf (isBetween b numberTop) ns) (ltb b n) (anyAbove b ns) (between-is b n)
+    (some-above b ns) e
 
 pub above-found : (b : ℕ) (ns : List ℕ) (r : Bool) → r ≡ anyOf (isBetween b numberTop) ns
     → (r ≡ false → (i : ℕ) → getD ns i 0 ≤ numberTop) → r ≡ anyAbove b ns

@@ -26,7 +26,8 @@ use Rattle.plate_model.specs.Asked.{knownShape, filled}
 use Rattle.plate_model.specs.Marks.{pixelMarks, layAll, layGrid}
 use Rattle.plate_model.specs.Listed.{listTo}
 use Rattle.plate_model.specs.Calls.{left, answerOf, refused, fillBy, fillCall}
-use Rattle.plate.specs.Filling.{Layer, ToFill, NoFill, readBy, layerRead, layerSize, pixelOf, pixelFrom, Ready, FilledTo, Refilled, fillLengths, inputsRead, layerOf}
+use Rattle.plate.specs.Filling.{Layer, ToFill, NoFill, readBy, layerRead, layerSize, pixelOf, pixelFrom, Ready, FilledTo}
+use Rattle.plate.specs.Filling.{Refilled, fillLengths, inputsRead, layerOf}
 use Rattle.plate_model.proofs.checks.Rows.{and-then}
 use Rattle.plate_model.proofs.checks.Accepted.{layer-accepted}
 use Rattle.plate.proofs.laws.checks.Lengths.{fill-accepted}
@@ -103,7 +104,8 @@ unfolding fillCheck
 layer-past s o k f n e = rw (fill-before s f n (layerCheck o k f), e)
 
 -- and what 1 to 3 refuse
-pub layer-before : (s : State) (o : Lens) (k : ℕ) (f : Inputs) (n : LentLengths) (why : Refusal) → fillLengthsOf s f n ≡ Refused why
+pub layer-before : (s : State) (o : Lens) (k : ℕ) (f : Inputs) (n : LentLengths) (why : Refusal)
+    → fillLengthsOf s f n ≡ Refused why
     → NoFill why ≡ layerRead s o k f n
 unfolding fillCheck
 layer-before s o k f n why e = rw (fill-before s f n (layerCheck o k f), e)

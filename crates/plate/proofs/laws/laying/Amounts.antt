@@ -15,7 +15,8 @@ use Rattle.kernels_model.specs.declared.mark.Drawing.the-variants.{Lines}
 use Rattle.kernels_model.specs.Drawing.{pieceMarks, linePieces, drawnMarks}
 use Rattle.kernels_model.proofs.numbers.Choices.{by-lt}
 use Rattle.kernels_model.proofs.sums.FiniteSums.{cong-mul}
-use Rattle.plate.specs.Laying.{columnMarks, levelMarks, Amounts, times, Origin, spot, layAmounts, layDrawn, factor, gridColumn, AllIn}
+use Rattle.plate.specs.Laying.{columnMarks, levelMarks, Amounts, times, Origin, spot, layAmounts, layDrawn, factor}
+use Rattle.plate.specs.Laying.{gridColumn, AllIn}
 
 -- WORTHS
 -- what wraps to 0 with w is minus w, wrapped
@@ -44,7 +45,8 @@ thrice-number a = omega arith
 -- a product may wrap on the way
 pub times-number : (a c d : ℕ) → (a * c) % 2 ^ 64 * d % 2 ^ 64 ≡ (a * (c * d)) % 2 ^ 64
 times-number a c d =
-    cong-mul (2 ^ 64) ((a * c) % 2 ^ 64) (a * c) d d (mod-mod (a * c) (2 ^ 64)) refl ∙ ap (λ (n : ℕ). n % 2 ^ 64) (mul-assoc a c d)
+    cong-mul (2 ^ 64) ((a * c) % 2 ^ 64) (a * c) d d (mod-mod (a * c) (2 ^ 64)) refl
+    ∙ ap (λ (n : ℕ). n % 2 ^ 64) (mul-assoc a c d)
 
 pub times-times : (w v : Amounts) (c d : ℕ) → v ≡ times w c → times v d ≡ times w (c * d)
 times-times w v c d e = rw (e, times-number (w .light) c d, times-number (w .matte) c d)
@@ -55,7 +57,8 @@ pub drawn-append : (g : Origin) (w : Amounts) (cells : List ℕ) (ms ns : List M
     → layDrawn g w cells (ms ++ ns) ≡ layDrawn g w (layDrawn g w cells ms) ns
 unfolding layDrawn
 drawn-append g w cells [] ns = refl
-drawn-append g w cells (m ∷ ms) ns = drawn-append g w (layAmounts g cells (m .plane) (m .column) (m .row) (times w (m .coefficient))) ms ns
+drawn-append g w cells (m ∷ ms) ns =
+    drawn-append g w (layAmounts g cells (m .plane) (m .column) (m .row) (times w (m .coefficient))) ms ns
 
 -- one list laid after another is both laid
 pub both-laid : (g : Origin) (w : Amounts) (before : List ℕ) (ms ns : List Mark) {between after : List ℕ}
@@ -119,7 +122,8 @@ line-in g p q o l h =
     record { first = a .0; middle = b .0; last = b .1 }
 
 pub lines-in : (g : Origin) (o : Outline) → AllIn g (drawnMarks (Lines o))
-    → AllIn g (linePieces (o .rising) (o .falling) 1 1 o (o .top)) × AllIn g (linePieces (o .falling) (o .rising) 1 1 o (o .bottom))
+    → AllIn g (linePieces (o .rising) (o .falling) 1 1 o (o .top))
+    × AllIn g (linePieces (o .falling) (o .rising) 1 1 o (o .bottom))
 unfolding drawnMarks
 lines-in g o h =
     let q = inside-append g (linePieces (o .rising) (o .falling) 1 (minus 1) o (o .top)) _ h in (

@@ -24,7 +24,8 @@ use Rattle.plate_model.specs.Marks.{inBoth, pixelMarks, cellOf, layOne, layAll}
 use Rattle.plate_model.proofs.numbers.Extents.{place-within, column-is, row-is}
 use Rattle.kernels_model.proofs.taps.ShapeNumbers.{reach-under}
 use Rattle.plate_model.proofs.laying.LaidCells.{lay-one-mod}
-use Rattle.plate.specs.Laying.{Amounts, times, amountsOf, Origin, layAmounts, layDrawn, FewBoxes, AllIn, MarksFit, Placed, PixelReady, ownMarks, originOf, spare, cornerOf, marksAt}
+use Rattle.plate.specs.Laying.{Amounts, times, amountsOf, Origin, layAmounts, layDrawn, FewBoxes, AllIn, MarksFit, Placed}
+use Rattle.plate.specs.Laying.{PixelReady, ownMarks, originOf, spare, cornerOf, marksAt}
 use Rattle.plate.specs.Frame.{Frame, frameOf}
 use Rattle.plate.proofs.laws.laying.Amounts.{times-number}
 use Rattle.kernels_model.specs.Fixed.{planesEach, level, margin}
@@ -119,7 +120,8 @@ module _ (f : Frame) (x y : ℕ) (placed : Placed f x y) where
   module _ (s : Shape) (r : ℕ) (reaches : reachOf s r ≤ f .size .reach) where
     -- a kernel's marks, laid from its corner, are those around the place
     kernel-laid : (w : Amounts) (cells : List ℕ)
-        → layDrawn (originOf f (cornerOf f x y (reachOf s r))) w cells (ownMarks s r) ≡ layAll (f .size) cells (kernelAt f x y s r w)
+        → layDrawn (originOf f (cornerOf f x y (reachOf s r))) w cells (ownMarks s r)
+        ≡ layAll (f .size) cells (kernelAt f x y s r w)
     kernel-laid w cells =
         rw (around (f .size) x y s r (placed .column-in) reaches, placed .framed)
         (drawn-laid (f .size) w _ _ cells (ownMarks s r))
@@ -140,7 +142,8 @@ module _ (f : Frame) (x y : ℕ) (placed : Placed f x y) where
         (rw (around z x y s r right reaches) at (tap-marks-within s r R X Y reaches (omega arith) (omega arith))))
 
     -- so that a plate has room for them
-    pub kernel-fits : (n : ℕ) → n ≡ planesInAll * f .padded → MarksFit (originOf f (cornerOf f x y (reachOf s r))) n (ownMarks s r)
+    pub kernel-fits : (n : ℕ) → n ≡ planesInAll * f .padded
+        → MarksFit (originOf f (cornerOf f x y (reachOf s r))) n (ownMarks s r)
     kernel-fits n e = record { planes-are = e; inside = kernel-inside }
 
 -- PARTS
@@ -237,13 +240,15 @@ module _ (f : Frame) (n x y : ℕ) (p : Pixel) (q : Share) (h : PixelReady f n x
       (layDrawn (originOf f (cornerOf f x y (reachOf (p .shape) (p .radius)))) taps cells (ownMarks (p .shape) (p .radius)))
       (ownMarks Box 0)
 
-  pub pixel-laid : (cells : List ℕ) → partsLaid cells (amountsOf p (q .each)) (amountsOf p (q .rest)) ≡ layAll (f .size) cells (marksAt f x y p)
+  pub pixel-laid : (cells : List ℕ)
+      → partsLaid cells (amountsOf p (q .each)) (amountsOf p (q .rest)) ≡ layAll (f .size) cells (marksAt f x y p)
   pixel-laid cells =
       parts-laid f x y (h .placed) (p .shape) (p .radius) pixel-reaches _ _ cells
       ∙ ap (layAll (f .size) cells) (pixel-worth f x y p q (omega (arith, h .radius-fits)) (h .share-is))
 
   -- and with what wraps to their opposites
-  pub pixel-taken : (cells : List ℕ) → partsLaid cells (times (amountsOf p (q .each)) (minus 1)) (times (amountsOf p (q .rest)) (minus 1))
+  pub pixel-taken : (cells : List ℕ)
+      → partsLaid cells (times (amountsOf p (q .each)) (minus 1)) (times (amountsOf p (q .rest)) (minus 1))
       ≡ layAll (f .size) cells (scaled (minus 1) (marksAt f x y p))
   pixel-taken cells =
       parts-laid f x y (h .placed) (p .shape) (p .radius) pixel-reaches _ _ cells

@@ -37,7 +37,8 @@ mended-none z c done k none =
     }
 
 -- a cell that is as it was is mended as it would have been before
-mended-late : (z : Size) (c : Change) (k k₁ k₂ : Canvas) (i : ℕ) → CellSame z k k₁ i → CellMended z c k₁ k₂ i → CellMended z c k k₂ i
+mended-late : (z : Size) (c : Change) (k k₁ k₂ : Canvas) (i : ℕ) → CellSame z k k₁ i → CellMended z c k₁ k₂ i
+    → CellMended z c k k₂ i
 mended-late z c k k₁ k₂ i same then =
     let light : mendedLight z c k₁ i ≡ mendedLight z c k i = ap (λ (n : ℕ). mendedSum z c lightOf n i) (same .light-is) in
     let matte : mendedMatte z c k₁ i ≡ mendedMatte z c k i = ap (λ (n : ℕ). mendedSum z c matteOf n i) (same .matte-is) in
@@ -49,7 +50,8 @@ mended-late z c k k₁ k₂ i same then =
     }
 
 -- and one that is mended stays so while others are
-mended-early : (z : Size) (c : Change) (k k₁ k₂ : Canvas) (i : ℕ) → CellMended z c k k₁ i → CellSame z k₁ k₂ i → CellMended z c k k₂ i
+mended-early : (z : Size) (c : Change) (k k₁ k₂ : Canvas) (i : ℕ) → CellMended z c k k₁ i → CellSame z k₁ k₂ i
+    → CellMended z c k k₂ i
 mended-early z c k k₁ k₂ i first same =
     record {
       light-is = same .light-is ∙ first .light-is;
@@ -95,29 +97,31 @@ mended-as z c done also k k' to from h =
 
 -- ROW BY ROW
 -- the cells of a row from one column on, up to another
-abbrev pub InColumns : Size → ℕ → ℕ → ℕ → ℕ → Type 0
-InColumns z row first past i = (i / z .width ≡ row) × (first ≤ i % z .width) × (i % z .width < past)
+abbrev pub InRange : Size → ℕ → ℕ → ℕ → ℕ → Type 0
+InRange z row first past i = (i / z .width ≡ row) × (first ≤ i % z .width) × (i % z .width < past)
 
 -- one more column
-pub columns-next : (z : Size) (c : Change) (row first column : ℕ) (k k₁ k₂ : Canvas) → column < z .width → first ≤ column
-    → MendedWhere z c (InColumns z row first column) k k₁ → MendedWhere z c (λ i. i ≡ row * z .width + column) k₁ k₂
-    → MendedWhere z c (InColumns z row first (column + 1)) k k₂
-columns-next z c row first column k k₁ k₂ inside low old new =
+pub range-next : (z : Size) (c : Change) (row first column : ℕ) (k k₁ k₂ : Canvas) → column < z .width → first ≤ column
+    → MendedWhere z c (InRange z row first column) k k₁ → MendedWhere z c (λ i. i ≡ row * z .width + column) k₁ k₂
+    → MendedWhere z c (InRange z row first (column + 1)) k k₂
+range-next z c row first column k k₁ k₂ inside low old new =
     mended-as z c _ _ k k₂ to from
-    (mended-then z c (InColumns z row first column) (λ i. i ≡ row * z .width + column) k k₁ k₂ apart old new)
+    (mended-then z c (InRange z row first column) (λ i. i ≡ row * z .width + column) k k₁ k₂ apart old new)
   where
     at-column : (i : ℕ) → i ≡ row * z .width + column → i % z .width ≡ column
     at-column i e = rw e (column-is column row (z .width) inside)
 
-    apart : (i : ℕ) → InColumns z row first column i → ¬ (i ≡ row * z .width + column)
+    apart : (i : ℕ) → InRange z row first column i → ¬ (i ≡ row * z .width + column)
     apart i s e = omega (arith, s .2, at-column i e)
 
-    to : (i : ℕ) → i < places z → InColumns z row first column i ⊎ (i ≡ row * z .width + column) → InColumns z row first (column + 1) i
+    to : (i : ℕ) → i < places z → InRange z row first column i ⊎ (i ≡ row * z .width + column)
+        → InRange z row first (column + 1) i
     to i h (inl s) = (s .0, s .1, omega (arith, s .2))
     to i h (inr e) =
         (rw e (row-is column row (z .width) inside), omega (arith, at-column i e), omega (arith, at-column i e))
 
-    from : (i : ℕ) → i < places z → InColumns z row first (column + 1) i → InColumns z row first column i ⊎ (i ≡ row * z .width + column)
+    from : (i : ℕ) → i < places z → InRange z row first (column + 1) i
+        → InRange z row first column i ⊎ (i ≡ row * z .width + column)
     from i h s =
         by-lt (i % z .width) column
         (λ g. inl (s .0, s .1, g))
@@ -156,14 +160,18 @@ module _ (z : Size) (c : Change) (place : ℕ) (old new : Given) (k : Canvas)
       (done : CellDone (places z) place across old new k k') where
     -- what a cell of each list holds then
     in-sums : (j : ℕ) → getD (k' .sums) j 0
-        ≡ getD (set (set (k .sums) place (lightThen place across old new k)) (places z + place) (matteThen (places z) place across old new k)) j 0
+        ≡ getD
+        (set (set (k .sums) place (lightThen place across old new k)) (places z + place)
+        (matteThen (places z) place across old new k)) j 0
     in-sums j = ap (λ (l : List ℕ). getD l j 0) (done .sums-are)
 
     in-values : (j : ℕ) → getD (k' .values) j 0
-        ≡ getD (set (k .values) place (shownValue (lightThen place across old new k) (matteThen (places z) place across old new k))) j 0
+        ≡ getD
+        (set (k .values) place (shownValue (lightThen place across old new k) (matteThen (places z) place across old new k))) j 0
     in-values j = ap (λ (l : List ℕ). getD l j 0) (done .values-are)
 
-    in-mattes : (j : ℕ) → getD (k' .mattes) j 0 ≡ getD (set (k .mattes) place (shownMatte (matteThen (places z) place across old new k))) j 0
+    in-mattes : (j : ℕ)
+        → getD (k' .mattes) j 0 ≡ getD (set (k .mattes) place (shownMatte (matteThen (places z) place across old new k))) j 0
     in-mattes j = ap (λ (l : List ℕ). getD l j 0) (done .mattes-are)
 
     -- its own cells hold what was written

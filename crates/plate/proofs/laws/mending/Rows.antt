@@ -23,7 +23,7 @@ use Rattle.plate.proofs.laws.checks.Lengths.{kept-accepted}
 use Rattle.kernels_model.proofs.taps.ShapeNumbers.{reach-under}
 use Rattle.plate.proofs.laws.mending.Gives.{gives-few}
 use Rattle.plate_model.proofs.mending.Reached.{near-reached, far-not-reached, row-not-reached}
-use Rattle.plate.proofs.laws.mending.Mended.{InColumns, mended-then, mended-as, cell-mended}
+use Rattle.plate.proofs.laws.mending.Mended.{InRange, mended-then, mended-as, cell-mended}
 
 -- a change of a plate and accepted sums and pictures can be mended
 pub mend-ready : (z : Size) (c : Change) (n : ℕ) (k : Canvas) → Changeable z c n → canvasFirst z k ≡ Accepted → MendReady z c k
@@ -86,11 +86,11 @@ module _ (z : Size) (c : Change) (k : Canvas) (ready : MendReady z c k) where
     -- the cells of the wider kernel's row are those in reach
     pub row-mended : (first past column span : ℕ) (k' : Canvas) → span ≡ old .band .span + (new .band .span - old .band .span)
         → first ≡ c .x + 1 - span → past ≡ min (c .x + span) (z .width) → past ≤ column → column ≤ first + (past - first)
-        → MendedWhere z c (InColumns z row first column) k k' → MendedWhere z c (InRow z c row) k k'
+        → MendedWhere z c (InRange z row first column) k k' → MendedWhere z c (InRow z c row) k k'
     row-mended first past column span k' wider starts ends low high =
-        mended-as z c (InColumns z row first column) (InRow z c row) k k' to from
+        mended-as z c (InRange z row first column) (InRow z c row) k k' to from
       where
-        to : (i : ℕ) → i < places z → InColumns z row first column i → InRow z c row i
+        to : (i : ℕ) → i < places z → InRange z row first column i → InRow z c row i
         to i h s = (
           s .0,
           near-reached z c i (old .band) (new .band) span
@@ -98,7 +98,7 @@ module _ (z : Size) (c : Change) (k : Canvas) (ready : MendReady z c k) where
               (rw change-column (omega (arith, s .1, s .2, starts, ends, low, high))),
         )
 
-        from : (i : ℕ) → i < places z → InRow z c row i → InColumns z row first column i
+        from : (i : ℕ) → i < places z → InRow z c row i → InRange z row first column i
         from i h s =
             let inside : i % z .width < z .width = mod-lt i (ready .change .lawful .width-some) in
             by-lt (dist (i % z .width) (c .x)) span

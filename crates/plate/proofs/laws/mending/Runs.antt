@@ -17,15 +17,16 @@ use Rattle.plate_model.specs.Lent.{Canvas, canvas}
 use Rattle.plate_model.specs.declared.change.Change.{Change}
 use Rattle.plate.specs.Laying.{Amounts, times}
 use Rattle.plate.specs.Showing.{RowShown}
-use Rattle.plate.specs.Mending.{Given, GivenIn, givenAt, levelAmounts, lightThen, matteThen, ColumnRange, RunAdded, RunIn, RunGiven, RowToMend, InRow, CellMended, CellSame, MendedWhere}
+use Rattle.plate.specs.Mending.{Given, GivenIn, givenAt, levelAmounts, lightThen, matteThen, CellRange, RunAdded, RunIn}
+use Rattle.plate.specs.Mending.{RunGiven, RowToMend, InRow, CellMended, CellSame, MendedWhere}
 use Rattle.plate.proofs.laws.numbers.Wraps.{wrap-more}
 use Rattle.plate_model.proofs.numbers.Extents.{place-within, row-in, column-is, row-is}
-use Rattle.plate.proofs.laws.mending.Mended.{InColumns, light-then, matte-then}
+use Rattle.plate.proofs.laws.mending.Mended.{InRange, light-then, matte-then}
 use Rattle.plate.proofs.laws.mending.Rows.{change-column, change-row, row-mended}
 
 -- ONE RUN
 -- light's run and then matte's
-pub run-given : (n start : ℕ) (s : ColumnRange) (by : Amounts) (old mid new : List ℕ) → RunIn n start s old
+pub run-given : (n start : ℕ) (s : CellRange) (by : Amounts) (old mid new : List ℕ) → RunIn n start s old
     → RunAdded (start + s .first) (s .past - s .first) (by .light) old mid
     → RunAdded (n + (start + s .first)) (s .past - s .first) (by .matte) mid new → RunGiven n start s by old new
 run-given n start s by old mid new inside light matte =
@@ -79,12 +80,12 @@ given-out : (g : Given) (dx : ℕ) → g .band .span ≤ dx → givenAt g dx ≡
 given-out g dx h = rw (band-out (g .band) dx h) (omega arith)
 
 -- the cells of a line that are nearer than a span to the one at a column
-abbrev pub Around : ℕ → ℕ → ℕ → ColumnRange → Type 0
+abbrev pub Around : ℕ → ℕ → ℕ → CellRange → Type 0
 Around at span end s = (s .first ≡ at + 1 - span) × (s .past ≡ min (at + span) end)
 
 -- those of a row lie in the row
 pub run-in : (z : Size) (c : Change) (row : ℕ) (old new : Given) (k : Canvas) → RowToMend z c row old new k
-    → (t : ℕ) (run : ColumnRange) → Around (c .x) t (z .width) run → (sums : List ℕ) → length sums ≡ sumsInAll z
+    → (t : ℕ) (run : CellRange) → Around (c .x) t (z .width) run → (sums : List ℕ) → length sums ≡ sumsInAll z
     → RunIn (places z) (row * z .width) run sums
 run-in z c row old new k r t run a sums e =
     let low = row-in row (z .width) (z .height) (r .row-in) in
@@ -96,7 +97,7 @@ run-in z c row old new k r t run a sums e =
 
 module _ (z : Size) (c : Change) (row : ℕ) (old new : Given) (k : Canvas) (r : RowToMend z c row old new k)
     (old-level : isLevel (old .band) ≡ true) (new-level : isLevel (new .band) ≡ true)
-    (old-run new-run wide : ColumnRange) (span : ℕ) (wider : span ≡ old .band .span + (new .band .span - old .band .span))
+    (old-run new-run wide : CellRange) (span : ℕ) (wider : span ≡ old .band .span + (new .band .span - old .band .span))
     (old-around : Around (c .x) (old .band .span) (z .width) old-run)
     (new-around : Around (c .x) (new .band .span) (z .width) new-run) (around : Around (c .x) span (z .width) wide)
     (s₁ s₂ v o : List ℕ)
@@ -108,7 +109,7 @@ module _ (z : Size) (c : Change) (row : ℕ) (old new : Given) (k : Canvas) (r :
   in-place x h = place-within x row (z .width) (z .height) h (r .row-in)
 
   -- a cell out of a run is in neither of its parts
-  out-of-run : (t : ℕ) (run : ColumnRange) → Around (c .x) t (z .width) run → (x : ℕ) → x < z .width → t ≤ dist x (c .x)
+  out-of-run : (t : ℕ) (run : CellRange) → Around (c .x) t (z .width) run → (x : ℕ) → x < z .width → t ≤ dist x (c .x)
       → (x' : ℕ) → run .first ≤ x' → x' < run .past → ¬ (x ≡ x')
   out-of-run t run a x inside far x' low high e = omega (arith, a .0, a .1, far, low, high, e)
 
@@ -117,7 +118,8 @@ module _ (z : Size) (c : Change) (row : ℕ) (old new : Given) (k : Canvas) (r :
       → getD s₂ (row * z .width + x) 0 ≡ lightThen (row * z .width + x) (dist x (c .x)) old new k
   light-sum x inside near =
       let dx = dist x (c .x) in
-      both-runs _ _ _ (old .value * givenAt old dx) (old .value * givenAt old 0) (new .value * givenAt new dx) (new .value * givenAt new 0)
+      both-runs _ _ _ (old .value * givenAt old dx) (old .value * givenAt old 0) (new .value * givenAt new dx)
+      (new .value * givenAt new 0)
       (old .band .span) (new .band .span) dx
       (λ h. (
         taken .light-in x (omega (arith, old-around .0, h)) (omega (arith, old-around .1, h, inside)),
@@ -172,10 +174,14 @@ module _ (z : Size) (c : Change) (row : ℕ) (old new : Given) (k : Canvas) (r :
       let across = change-column z c k (r .ready) in
       let down = row-is x row (z .width) inside in
       let up = change-row z c k (r .ready) in
-      let old-is : GivenIn (c .old) (dist ((row * z .width + x) / z .width) (c .place / z .width)) old = rw (down, up) (r .old-is) in
-      let new-is : GivenIn (c .new) (dist ((row * z .width + x) / z .width) (c .place / z .width)) new = rw (down, up) (r .new-is) in
-      let light = light-sum x inside near ∙ (rw (column, across) at (light-then z c (row * z .width + x) old new k old-is new-is)) in
-      let matte = matte-sum x inside near ∙ (rw (column, across) at (matte-then z c (row * z .width + x) old new k old-is new-is)) in
+      let old-is : GivenIn (c .old) (dist ((row * z .width + x) / z .width) (c .place / z .width)) old = rw (down, up)
+      (r .old-is) in
+      let new-is : GivenIn (c .new) (dist ((row * z .width + x) / z .width) (c .place / z .width)) new = rw (down, up)
+      (r .new-is) in
+      let light = light-sum x inside near
+      ∙ (rw (column, across) at (light-then z c (row * z .width + x) old new k old-is new-is)) in
+      let matte = matte-sum x inside near
+      ∙ (rw (column, across) at (matte-then z c (row * z .width + x) old new k old-is new-is)) in
       let at : row * z .width + wide .first + (x - wide .first) ≡ row * z .width + x = omega arith in
       let at' : places z + (row * z .width + wide .first) + (x - wide .first) ≡ places z + (row * z .width + x) = omega arith in
       record {
@@ -187,29 +193,38 @@ module _ (z : Size) (c : Change) (row : ℕ) (old new : Given) (k : Canvas) (r :
 
   -- a cell of one of the runs is one of the wider
   in-wide : (i x : ℕ) → wide .first ≤ x → x < wide .past → i ≡ row * z .width + x
-      → InColumns z row (wide .first) (wide .first + (wide .past - wide .first)) i
+      → InRange z row (wide .first) (wide .first + (wide .past - wide .first)) i
   in-wide i x low high e =
       let inside : x < z .width = omega (arith, high, around .1) in
       rw (e, row-is x row (z .width) inside, column-is x row (z .width) inside) (refl, low, omega (arith, low, high))
 
   -- every other cell is as it was
-  there : (i : ℕ) → i < places z → ¬ (InColumns z row (wide .first) (wide .first + (wide .past - wide .first)) i) → CellSame z k (canvas s₂ v o) i
+  there : (i : ℕ) → i < places z → ¬ (InRange z row (wide .first) (wide .first + (wide .past - wide .first)) i)
+      → CellSame z k (canvas s₂ v o) i
   there i h n =
       record {
         light-is = given .rest i
-            (λ x low high e. n (in-wide i x (omega (arith, low, new-around .0, around .0, wider)) (omega (arith, high, new-around .1, around .1, wider)) e))
+            (λ x low high e. n (in-wide i x (omega (arith, low, new-around .0, around .0, wider))
+            (omega (arith, high, new-around .1, around .1, wider)) e))
             (λ x low high e. omega (arith, h, e))
             ∙ taken .rest i
-            (λ x low high e. n (in-wide i x (omega (arith, low, old-around .0, around .0, wider)) (omega (arith, high, old-around .1, around .1, wider)) e))
+            (λ x low high e. n (in-wide i x (omega (arith, low, old-around .0, around .0, wider))
+            (omega (arith, high, old-around .1, around .1, wider)) e))
             (λ x low high e. omega (arith, h, e));
         matte-is = given .rest (matteFrom z + i)
             (λ x low high e. omega (arith, in-place x (omega (arith, high, new-around .1)), e))
-            (λ x low high e. n (in-wide i x (omega (arith, low, new-around .0, around .0, wider)) (omega (arith, high, new-around .1, around .1, wider)) (omega (arith, e))))
+            (λ x low high e. n (in-wide i x (omega (arith, low, new-around .0, around .0, wider))
+            (omega (arith, high, new-around .1, around .1, wider)) (omega (arith, e))))
             ∙ taken .rest (matteFrom z + i)
             (λ x low high e. omega (arith, in-place x (omega (arith, high, old-around .1)), e))
-            (λ x low high e. n (in-wide i x (omega (arith, low, old-around .0, around .0, wider)) (omega (arith, high, old-around .1, around .1, wider)) (omega (arith, e))));
-        value-is = shown .in-values .rest i (λ c j _ g e. n (in-wide i (wide .first + j) (omega arith) (omega (arith, g)) (omega (arith, e))));
-        shown-is = shown .in-mattes .rest i (λ c j _ g e. n (in-wide i (wide .first + j) (omega arith) (omega (arith, g)) (omega (arith, e))));
+            (λ x low high e. n (in-wide i x (omega (arith, low, old-around .0, around .0, wider))
+            (omega (arith, high, old-around .1, around .1, wider)) (omega (arith, e))));
+        value-is =
+            shown .in-values .rest i
+            (λ c j _ g e. n (in-wide i (wide .first + j) (omega arith) (omega (arith, g)) (omega (arith, e))));
+        shown-is =
+            shown .in-mattes .rest i
+            (λ c j _ g e. n (in-wide i (wide .first + j) (omega arith) (omega (arith, g)) (omega (arith, e))));
       }
 
   pub runs-mended : MendedWhere z c (InRow z c row) k (canvas s₂ v o)

@@ -21,7 +21,8 @@ use Rattle.plate_model.specs.Refusal.{showCheck}
 use Rattle.plate_model.specs.Listed.{zeros, listTo}
 use Rattle.plate_model.specs.Calls.{stored, sumAt, shown, answerOf, showBy}
 use Rattle.plate.specs.Passes.{Channel, planesIn, slopeSums, downFrom, sumsEnd, matteAfter, SummedTo}
-use Rattle.plate.specs.Showing.{Image, lightChannel, BothIn, BothTo, BothSummed, RowShown, sumIn, ShownTo, TotalReady, ShowReady}
+use Rattle.plate.specs.Showing.{Image, lightChannel, BothIn, BothTo, BothSummed, RowShown, sumIn, ShownTo, TotalReady}
+use Rattle.plate.specs.Showing.{ShowReady}
 use Rattle.plate.proofs.laws.checks.Lengths.{show-accepted}
 use Rattle.plate_model.proofs.numbers.Lists.{length-listTo, getD-listTo}
 
@@ -47,9 +48,11 @@ pub row-finished : (light : Channel) (image : Image) (m s : List ℕ) (i l d : �
     → RowFinished light image m s i l d
 row-finished light image m s i l d columns both light-at matte-at =
     record {
-      light-is = λ x f. finished-at light m s (image .first + i) (image .first + x) (l + x) (both .light-to) (omega arith) (omega arith);
+      light-is =
+          λ x f. finished-at light m s (image .first + i) (image .first + x) (l + x) (both .light-to) (omega arith) (omega arith);
       matte-is = λ x f.
-          finished-at (matteAfter light) m s (image .first + i) (image .first + x) (d + x) (both .matte-to) (omega arith) (omega arith);
+          finished-at (matteAfter light) m s (image .first + i) (image .first + x) (d + x) (both .matte-to) (omega arith)
+          (omega arith);
     }
 
 -- a cell of a row before row i is none of row i
@@ -65,7 +68,8 @@ module _ (light : Channel) (image : Image) (m s v v' o o' : List ℕ) (i l d : �
             ≡ shownValue (sumIn light image m x y) (sumIn (matteAfter light) image m x y)) i
             (λ y g. new .in-values .rest _ (λ c j k q. earlier-row _ i x y j f g) ∙ old .in-values x y f g)
             (new .in-values .done 0 x (omega arith) f ∙ rw (sums .light-is x f, sums .matte-is x f)) y;
-        in-mattes = λ x y f. below-more (λ y. getD o' (y * image .width + x) 0 ≡ shownMatte (sumIn (matteAfter light) image m x y)) i
+        in-mattes =
+            λ x y f. below-more (λ y. getD o' (y * image .width + x) 0 ≡ shownMatte (sumIn (matteAfter light) image m x y)) i
             (λ y g. new .in-mattes .rest _ (λ c j k q. earlier-row _ i x y j f g) ∙ old .in-mattes x y f g)
             (new .in-mattes .done 0 x (omega arith) f ∙ rw (sums .matte-is x f)) y;
       }
@@ -85,7 +89,12 @@ pub showing-start : (light : Channel) (image : Image) (m s v o : List ℕ) → B
     → ShowingAt light image m s s v v o o 0
 showing-start light image m s v o to =
     let e : image .first + 0 ≡ image .first = omega arith in
-    record { same-values = refl; same-mattes = refl; both = record { same = refl; to = rw e to }; done = shown-start light image m v o }
+    record {
+      same-values = refl;
+      same-mattes = refl;
+      both = record { same = refl; to = rw e to };
+      done = shown-start light image m v o;
+    }
 
 -- THE WHOLE
 -- the sums of both channels fit into the scratch
@@ -106,7 +115,12 @@ ready-both z light m s e r =
       some = omega arith;
       narrow = omega arith;
       tall = omega arith;
-      sums-in = omega (arith, sums-fit (z .reach + margin + z .width) (wide z) (high z) (omega arith) (omega arith) (omega arith), r .scratch-is);
+      sums-in =
+          omega (
+            arith,
+            sums-fit (z .reach + margin + z .width) (wide z) (high z) (omega arith) (omega arith) (omega arith),
+            r .scratch-is,
+          );
       marks-in = omega (arith, r .planes-are);
     })
 
@@ -168,8 +182,10 @@ module _ (z : Size) (m : List ℕ) where
 
 module _ (state : State) (m s₀ s s' v₀ v o₀ o : List ℕ) (r : ShowReady (state .size) m s₀ v₀ o₀)
     (same-s : length s ≡ length s₀) (same-v : length v ≡ length v₀) (same-o : length o ≡ length o₀)
-    (all : ShownTo (lightChannel (state .size)) (imageOf (state .size)) m v o (state .size .height)) (clear : s' ≡ zeros (length s)) where
-  values-are : v ≡ listTo (λ i. shownValue (sumAt (state .size) m 0 i) (sumAt (state .size) m planesEach i)) (places (state .size))
+    (all : ShownTo (lightChannel (state .size)) (imageOf (state .size)) m v o (state .size .height))
+    (clear : s' ≡ zeros (length s)) where
+  values-are : v
+      ≡ listTo (λ i. shownValue (sumAt (state .size) m 0 i) (sumAt (state .size) m planesEach i)) (places (state .size))
   values-are =
       shown-list v (state .size .width) (state .size .height) _ _ (same-v ∙ r .values-are) (all .in-values)
       (λ j. rw (light-sum (state .size) m j, matte-sum (state .size) m j))

@@ -21,7 +21,8 @@ use Rattle.plate_model.proofs.numbers.Extents.{place-within, row-in}
 use Rattle.plate_model.proofs.numbers.Lists.{two-lists}
 use Rattle.plate_model.proofs.checks.Passed.{sizes-passed, length-passed}
 use Rattle.plate.proofs.laws.showing.Writes.{apart-two, out-of-two, Writing, writing-cell, writing-column}
-use Rattle.plate.proofs.laws.showing.Image.{RowFinished, earlier-row, each-place, imageOf, light-sum, matte-sum, all-shown, show-ready}
+use Rattle.plate.proofs.laws.showing.Image.{RowFinished, earlier-row, each-place, imageOf, light-sum, matte-sum, all-shown}
+use Rattle.plate.proofs.laws.showing.Image.{show-ready}
 
 -- ONE ROW
 -- one more column of it is kept
@@ -67,7 +68,8 @@ module _ (light : Channel) (image : Image) (m s k k' : List ℕ) (i l d : ℕ) (
         in-matte = λ x y f. below-more (λ y. getD k' (image .width * image .height + (y * image .width + x)) 0
             ≡ sumIn (matteAfter light) image m x y) i
             (λ y g. new .rest _ (matte-out x y f g) ∙ old .in-matte x y f g)
-            (let e : image .width * image .height + (i * image .width + x) ≡ image .width * image .height + i * image .width + x = omega arith in
+            (let e : image .width * image .height + (i * image .width + x)
+            ≡ image .width * image .height + i * image .width + x = omega arith in
             rw e (new .done 1 x (omega arith) f ∙ sums .matte-is x f)) y;
       }
 
@@ -142,6 +144,6 @@ pub show-kept-ready : (state : State) (m s v o k : List ℕ)
     → ShowKeptReady (state .size) m s v o k
 unfolding showKeptCheck
 show-kept-ready state m s v o k e =
-    let lentLengths = sizes-passed (state .size) _ e in
-    let sums = length-passed (length k) _ _ (lentLengths .1) in
+    let sizes = sizes-passed (state .size) _ e in
+    let sums = length-passed (length k) _ _ (sizes .1) in
     record { show = show-ready state m s v o (sums .1); sums-are = sums .0 }

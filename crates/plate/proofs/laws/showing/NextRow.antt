@@ -11,8 +11,15 @@ use Rattle.kernels_model.specs.Sum.{sum, Row, Plane, Planes, running, across, d
 use Rattle.kernels_model.proofs.numbers.Choices.{if-within, within-yes, within-no}
 use Rattle.kernels_model.proofs.sums.FiniteSums.{cong-add}
 use Rattle.kernels_model.proofs.sums.PlaneSums.{slope-zero}
-use Rattle.plate.specs.Passes.{Channel, riseTwo, riseOne, fallOne, fallTwo, planesIn, slopeSums, fallingOneAt, fallingTwoAt, risingOneAt, risingTwoAt, downFrom, startsAt, RowSummed, marksIn, onto, plus, thirdRow, secondRow, levelRow, rowWith, rowWithout, slopesRow, sumCell, FallingLines, RisingLines, SummedTo, RowReady, Summed}
-use Rattle.plate.proofs.laws.showing.Starts.{InPlace, in-place, Away, away, away-before, away-after, away-falling-one, away-falling-two, away-rising-one, away-rising-two, falling-one-step, falling-two-step, rising-one-step, rising-two-step, falling-one-later, falling-two-later, rising-one-later, rising-two-later, falling-two-other, rising-two-other}
+use Rattle.plate.specs.Passes.{Channel, riseTwo, riseOne, fallOne, fallTwo, planesIn, slopeSums, fallingOneAt, fallingTwoAt}
+use Rattle.plate.specs.Passes.{risingOneAt, risingTwoAt, downFrom, startsAt, RowSummed, marksIn, onto, plus, thirdRow}
+use Rattle.plate.specs.Passes.{secondRow, levelRow, rowWith, rowWithout, slopesRow, sumCell, FallingLines, RisingLines}
+use Rattle.plate.specs.Passes.{SummedTo, RowReady, Summed}
+use Rattle.plate.proofs.laws.showing.Starts.{InPlace, in-place, Away, away, away-before, away-after, away-falling-one}
+use Rattle.plate.proofs.laws.showing.Starts.{away-falling-two, away-rising-one, away-rising-two, falling-one-step}
+use Rattle.plate.proofs.laws.showing.Starts.{falling-two-step, rising-one-step, rising-two-step, falling-one-later}
+use Rattle.plate.proofs.laws.showing.Starts.{falling-two-later, rising-one-later, rising-two-later, falling-two-other}
+use Rattle.plate.proofs.laws.showing.Starts.{rising-two-other}
 use Rattle.plate.proofs.laws.showing.SlopeLines.{slope-from-above, falling-next, from-below-in, rising-next}
 
 -- THE PLANES' CELLS
@@ -20,7 +27,8 @@ pub mark-is : (p : Channel) (m : List ℕ) (d x y : ℕ) → x < p .wide → y <
     → marksIn m (startsAt p y) d x ≡ planesIn p m d x y
 unfolding planesIn startsAt
 mark-is p m d x y a b =
-    let i : p .marks + y * p .wide + x + d * (p .wide * p .high) ≡ p .marks + d * (p .wide * p .high) + (y * p .wide + x) = omega arith in
+    let i : p .marks + y * p .wide + x + d * (p .wide * p .high)
+    ≡ p .marks + d * (p .wide * p .high) + (y * p .wide + x) = omega arith in
     rw (i, within-yes (suc x) (p .wide) _ a, within-yes (suc y) (p .high) _ b)
 
 pub plane-below : (p : Channel) (m : List ℕ) (d x y : ℕ) → p .high ≤ y → planesIn p m d x y ≡ 0
@@ -72,7 +80,8 @@ down-is t e d1 d2 u1 u2 t' e' d1' d2' u1' u2' p q r1 r2 k1 k2 =
     order : t' + (e' + d1' + d2' + u1' + u2') ≡ t' + (u2' + (u1' + (e' + (d1' + d2'))))
     order = omega arith
 
-module _ (p : Channel) (m s s' : List ℕ) (y : ℕ) (ready : RowReady p s m y) (new : RowSummed m s s' (startsAt p y) (p .columns)) where
+module _ (p : Channel) (m s s' : List ℕ) (y : ℕ) (ready : RowReady p s m y)
+    (new : RowSummed m s s' (startsAt p y) (p .columns)) where
   M : Planes
   M = planesIn p m
 
@@ -138,7 +147,8 @@ module _ (p : Channel) (m s s' : List ℕ) (y : ℕ) (ready : RowReady p s m y) 
   rising-one-next : RisingLines 1 (p .columns) (p .high) (risingOneAt p) (M riseOne) s' (y + 1)
   unfolding sumCell rowWithout startsAt M
   rising-one-next =
-      rising-next (p .high) 1 (M riseOne) (plane-below p m riseOne) (p .columns) (risingOneAt p) s s' y (ready .fits .some) (omega arith) (omega arith)
+      rising-next (p .high) 1 (M riseOne) (plane-below p m riseOne) (p .columns) (risingOneAt p) s s' y (ready .fits .some)
+      (omega arith) (omega arith)
       (rising-one-step p y)
       (λ r x g l e. absurd (omega arith))
       (λ r g l. kept _ (away-rising-one p _ here _ (omega arith) (omega arith) (rising-one-later p y r g)))
@@ -148,7 +158,8 @@ module _ (p : Channel) (m s s' : List ℕ) (y : ℕ) (ready : RowReady p s m y) 
   rising-two-next : RisingLines 2 (p .columns) (p .high) (risingTwoAt p) (M riseTwo) s' (y + 1)
   unfolding sumCell rowWithout startsAt M
   rising-two-next =
-      rising-next (p .high) 2 (M riseTwo) (plane-below p m riseTwo) (p .columns) (risingTwoAt p) s s' y (ready .fits .some) (omega arith) (omega arith)
+      rising-next (p .high) 2 (M riseTwo) (plane-below p m riseTwo) (p .columns) (risingTwoAt p) s s' y (ready .fits .some)
+      (omega arith) (omega arith)
       (rising-two-step p y)
       (λ r x g l e.
       let q = in-place p r (omega arith) in
@@ -168,8 +179,10 @@ module _ (p : Channel) (m s s' : List ℕ) (y : ℕ) (ready : RowReady p s m y) 
       ∙ down-is _ _ _ _ _ _ _ _ _ _ _ _
       (ready .to .finished x l)
       (level-is x l)
-      (falling-is 1 (p .columns) (p .high) (fallingOneAt p) (M fallOne) _ s y x (omega arith) (ready .to .falling-one) l (mark fallOne x l))
-      (falling-is 2 (p .columns) (p .high) (fallingTwoAt p) (M fallTwo) _ s y x (omega arith) (ready .to .falling-two) l (mark fallTwo x l))
+      (falling-is 1 (p .columns) (p .high) (fallingOneAt p) (M fallOne) _ s y x (omega arith) (ready .to .falling-one) l
+      (mark fallOne x l))
+      (falling-is 2 (p .columns) (p .high) (fallingTwoAt p) (M fallTwo) _ s y x (omega arith) (ready .to .falling-two) l
+      (mark fallTwo x l))
       (rising-is 1 (p .columns) (p .high) (risingOneAt p) (M riseOne) s y x (omega arith) (omega arith) (ready .to .rising-one) l)
       (rising-is 2 (p .columns) (p .high) (risingTwoAt p) (M riseTwo) s y x (omega arith) (omega arith) (ready .to .rising-two) l)
       ∙ rw (add-one y)

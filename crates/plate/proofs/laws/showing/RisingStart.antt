@@ -6,8 +6,11 @@ use native.Mathlib.Omega.{arith}
 use lib.ListN.{length, getD}
 use borrow.Author.Count.{below-none, below-more}
 use Rattle.kernels_model.specs.Sum.{sum}
-use Rattle.plate.specs.Passes.{Channel, riseTwo, riseOne, fallOne, fallTwo, planesIn, fallingOneAt, fallingTwoAt, risingOneFrom, risingTwoFrom, risingOneAt, risingTwoAt, downFrom, startsAt, RowLaid, rowWith, rowStart, risingCell, RisingLines, ChannelIn, OnlySums, Summed, sumsEnd}
-use Rattle.plate.proofs.laws.showing.Starts.{Out, in-place, InPlace, rising-one-step, rising-two-step, rising-one-later, rising-two-later, rising-two-earlier, rising-two-other}
+use Rattle.plate.specs.Passes.{Channel, riseTwo, riseOne, fallOne, fallTwo, planesIn, fallingOneAt, fallingTwoAt}
+use Rattle.plate.specs.Passes.{risingOneFrom, risingTwoFrom, risingOneAt, risingTwoAt, downFrom, startsAt, RowLaid, rowWith}
+use Rattle.plate.specs.Passes.{rowStart, risingCell, RisingLines, ChannelIn, OnlySums, Summed, sumsEnd}
+use Rattle.plate.proofs.laws.showing.Starts.{Out, in-place, InPlace, rising-one-step, rising-two-step, rising-one-later}
+use Rattle.plate.proofs.laws.showing.Starts.{rising-two-later, rising-two-earlier, rising-two-other}
 use Rattle.plate.proofs.laws.showing.SlopeLines.{falling-start, rising-start, rising-laid}
 use Rattle.plate.proofs.laws.showing.NextRow.{mark-is, plane-below}
 
@@ -36,11 +39,15 @@ laid-start p m s ready =
     record {
       same = refl;
       rising-one = rising-start (p .high) 1 (planesIn p m riseOne) (plane-below p m riseOne) (p .columns) (risingOneAt p) s
-          (λ r x f g l. let q = in-place p r (omega arith) in ready .clear _ (omega (arith, q .rising-one)) (omega (arith, q .rising-one-end)));
+          (λ r x f g l. let q = in-place p r (omega arith) in ready .clear _ (omega (arith, q .rising-one))
+          (omega (arith, q .rising-one-end)));
       rising-two = rising-start (p .high) 2 (planesIn p m riseTwo) (plane-below p m riseTwo) (p .columns) (risingTwoAt p) s
-          (λ r x f g l. let q = in-place p r (omega arith) in ready .clear _ (omega (arith, q .rising-two)) (omega (arith, q .rising-two-end)));
-      none-one = λ r l. let q = in-place p r (omega arith) in ready .clear _ (omega (arith, q .rising-one)) (omega (arith, q .rising-one-end));
-      none-two = λ r l. let q = in-place p r (omega arith) in ready .clear _ (omega (arith, q .rising-two)) (omega (arith, q .rising-two-end));
+          (λ r x f g l. let q = in-place p r (omega arith) in ready .clear _ (omega (arith, q .rising-two))
+          (omega (arith, q .rising-two-end)));
+      none-one = λ r l. let q =
+          in-place p r (omega arith) in ready .clear _ (omega (arith, q .rising-one)) (omega (arith, q .rising-one-end));
+      none-two = λ r l. let q =
+          in-place p r (omega arith) in ready .clear _ (omega (arith, q .rising-two)) (omega (arith, q .rising-two-end));
       before = λ j l. refl;
       after = λ j l. refl;
     }
@@ -70,14 +77,16 @@ module _ (p : Channel) (m s₀ s s' : List ℕ) (y : ℕ) (some : 0 < p .columns
   laid-next =
       record {
         same = new .same ∙ old .same;
-        rising-one = rising-laid (p .high) 1 (planesIn p m riseOne) (plane-below p m riseOne) (p .columns) (risingOneAt p) s s' y some
+        rising-one =
+            rising-laid (p .high) 1 (planesIn p m riseOne) (plane-below p m riseOne) (p .columns) (risingOneAt p) s s' y some
             (omega arith) low (rising-one-step p y)
             (λ r x g l e. absurd (omega arith))
             (λ r g l. in-one _ (omega arith) (rising-one-later p y r g))
             (old .none-one y (omega arith))
             (λ i l. new .done 0 i (omega arith) l ∙ rw (mark-is p m riseOne i y (omega arith) low))
             (old .rising-one);
-        rising-two = rising-laid (p .high) 2 (planesIn p m riseTwo) (plane-below p m riseTwo) (p .columns) (risingTwoAt p) s s' y some
+        rising-two =
+            rising-laid (p .high) 2 (planesIn p m riseTwo) (plane-below p m riseTwo) (p .columns) (risingTwoAt p) s s' y some
             (omega arith) low (rising-two-step p y)
             (λ r x g l e.
             let q = in-place p r (omega arith) in
@@ -91,7 +100,8 @@ module _ (p : Channel) (m s₀ s s' : List ℕ) (y : ℕ) (some : 0 < p .columns
             let q = in-place p r (omega arith) in
             in-two _ (q .rising-two) (rising-two-earlier p y r some low l) ∙ old .none-two r (omega arith);
         before = λ j l. kept j (λ i k e. omega arith) (λ i k e. omega (arith, here .rising-two)) ∙ old .before j l;
-        after = λ j l. kept j (λ i k e. omega (arith, here .rising-one-end)) (λ i k e. omega (arith, here .rising-two-end)) ∙ old .after j l;
+        after = λ j l. kept j (λ i k e. omega (arith, here .rising-one-end)) (λ i k e. omega (arith, here .rising-two-end))
+            ∙ old .after j l;
       }
 
 module _ (p : Channel) (m s₀ s : List ℕ) (ready : LayReady p s₀ m) (all : LaidFrom p m s₀ s 0) where

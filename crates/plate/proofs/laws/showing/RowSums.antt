@@ -10,8 +10,11 @@ use borrow.Author.Count.{below-none, below-more}
 use Rattle.kernels_model.specs.Fixed.{level, secondBox, thirdBox}
 use Rattle.kernels_model.specs.Sum.{sum, Row}
 use Rattle.kernels_model.proofs.sums.FiniteSums.{cong-add}
-use Rattle.plate.specs.Passes.{Starts, Across, Added, MarksOn, MarksOff, InOrder, BoxesMet, riseTwo, riseOne, fallOne, fallTwo, markAt, marksIn, onto, plus, thirdRow, secondRow, levelRow, rowWith, rowWithout, slopesRow, sumStart, sumCell, rowStart, risingCell}
-use Rattle.plate.proofs.laws.showing.Writes.{Apart, apart-rows, apart-two, Writing, writing-start, writing-cell, writing-column}
+use Rattle.plate.specs.Passes.{Starts, Across, Added, MarksOn, MarksOff, InOrder, BoxesMet, riseTwo, riseOne, fallOne}
+use Rattle.plate.specs.Passes.{fallTwo, markAt, marksIn, onto, plus, thirdRow, secondRow, levelRow, rowWith, rowWithout}
+use Rattle.plate.specs.Passes.{slopesRow, sumStart, sumCell, rowStart, risingCell}
+use Rattle.plate.proofs.laws.showing.Writes.{Apart, apart-rows, apart-two, Writing, writing-start, writing-cell}
+use Rattle.plate.proofs.laws.showing.Writes.{writing-column}
 
 sums-apart : (starts : Starts) (n l k : ℕ) → InOrder starts n l k → Apart 7 n (sumStart starts)
 sums-apart starts n l k o =
@@ -42,7 +45,8 @@ summing-start m s starts n =
     record { row = writing-start 7 n (sumStart starts) (sumCell m s starts) s; third = refl; second = refl; level-sum = refl }
 
 -- a sum across takes a cell
-more : (f : Row) (i a b z : ℕ) → a ≡ sum f i % 2 ^ 64 → z % 2 ^ 64 ≡ f i % 2 ^ 64 → b ≡ (a + z) % 2 ^ 64 → b ≡ sum f (i + 1) % 2 ^ 64
+more : (f : Row) (i a b z : ℕ) → a ≡ sum f i % 2 ^ 64 → z % 2 ^ 64 ≡ f i % 2 ^ 64 → b ≡ (a + z) % 2 ^ 64
+    → b ≡ sum f (i + 1) % 2 ^ 64
 unfolding sum
 more f i a b z e g h = rw (add-one i) (omega arith)
 
@@ -102,7 +106,8 @@ summed m s₀ starts i a d1 d2 u1 u2 f r t x v ea e1 e2 f1 f2 ef er et ex ev =
 module _ (m s₀ s s1 s2 s3 s4 : List ℕ) (starts : Starts) (n k i : ℕ) (sums next : Across) (f r t v : ℕ)
     (o : InOrder starts n (length s₀) k) (h : i < n) (old : SummingAt m s₀ s starts n i sums)
     (boxes : BoxesMet m s s1 (starts .third + i) (starts .second + i) (starts .marks + i) (starts .apart) sums next)
-    (falling : MarksOn m s1 s2 (starts .«falling_one» + i) (starts .«falling_two» + i) (starts .marks + i + fallOne * starts .apart)
+    (falling : MarksOn m s1 s2 (starts .«falling_one» + i) (starts .«falling_two» + i)
+    (starts .marks + i + fallOne * starts .apart)
     (starts .marks + i + fallTwo * starts .apart) f)
     (rising : MarksOff m s2 s3 (starts .«rising_one» + i) (starts .«rising_two» + i) (starts .marks + i + riseOne * starts .apart)
     (starts .marks + i + riseTwo * starts .apart) r)
@@ -115,7 +120,8 @@ module _ (m s₀ s s1 s2 s3 s4 : List ℕ) (starts : Starts) (n k i : ℕ) (sums
       let X = sumCell m s₀ starts in
       let w0 = old .row in
       let third = more (marksIn m starts thirdBox) i _ _ _ (old .third) refl (boxes .third-is) in
-      let t0 = keep s₀ (starts .third) (marksIn m starts thirdBox) i _ _ _ (w0 .next 0 (omega arith) (omega arith) h) third refl in
+      let t0 = keep s₀ (starts .third) (marksIn m starts thirdBox) i _ _ _
+      (w0 .next 0 (omega arith) (omega arith) h) third refl in
       let second = more (plus (thirdRow m s₀ starts) (marksIn m starts secondBox)) i _ _ _ (old .second)
       (hand (thirdRow m s₀ starts) (marksIn m starts secondBox) i _ t0) (boxes .second-is) in
       let t1 = keep s₀ (starts .second) (plus (thirdRow m s₀ starts) (marksIn m starts secondBox)) i _ _ _

@@ -59,7 +59,8 @@ falling-next k n h o f s s' y pos low step new near far old =
     last : (x : ℕ) → x < n → getD s' (o (y + k) + x) 0 ≡ fromAbove k f x (y + k) % 2 ^ 64
     last zero e =
         let q : o (y + k) + 0 ≡ o (y + k) = omega arith in
-        rw (q, from-above-left k f (y + k)) (far (y + k) (omega arith) (omega arith) ∙ old .fresh (y + k) (omega arith) (omega arith))
+        rw (q, from-above-left k f (y + k))
+        (far (y + k) (omega arith) (omega arith) ∙ old .fresh (y + k) (omega arith) (omega arith))
     last (suc x) e =
         let q : o (y + k) + suc x ≡ o y + x = omega arith in
         rw (q, from-above-next k f x y)

@@ -6,7 +6,9 @@ use native.Mathlib.Nat.{mul-le-mul-right}
 use borrow.Author.Count.{below-none, below-more}
 use Rattle.kernels_model.proofs.numbers.Choices.{by-lt}
 use Rattle.plate_model.proofs.numbers.Extents.{row-in}
-use Rattle.plate.specs.Passes.{Channel, Starts, marksEnd, twoLines, fallingOneFrom, fallingTwoFrom, risingOneFrom, risingTwoFrom, downFrom, sumsEnd, fallingOneAt, fallingTwoAt, risingOneAt, risingTwoAt, startsAt, InOrder, sumStart}
+use Rattle.plate.specs.Passes.{Channel, Starts, marksEnd, twoLines, fallingOneFrom, fallingTwoFrom, risingOneFrom}
+use Rattle.plate.specs.Passes.{risingTwoFrom, downFrom, sumsEnd, fallingOneAt, fallingTwoAt, risingOneAt, risingTwoAt}
+use Rattle.plate.specs.Passes.{startsAt, InOrder, sumStart}
 
 -- a row's lines that go 2 rows a column are the first or the second of that kind
 pub side-le : (row lines : ℕ) → (row % 2) * lines ≤ lines

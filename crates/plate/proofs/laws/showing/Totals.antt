@@ -48,7 +48,8 @@ added-next p m s₀ s s' y v d r old same to at e =
 
 -- THE WHOLE
 -- a channel's sums fit into the scratch, all columns of them
-whole-fits : (z : Size) (marks : ℕ) → 7 ≤ wide z → 7 ≤ high z → sumsEnd (wholeChannel (frameOf z) marks) ≤ scratchPlanes * padded z
+whole-fits : (z : Size) (marks : ℕ) → 7 ≤ wide z → 7 ≤ high z
+    → sumsEnd (wholeChannel (frameOf z) marks) ≤ scratchPlanes * padded z
 whole-fits z marks a b = many (wide z - 7) (high z - 7) (wide z) (high z) (omega arith) (omega arith)
   where
     many : (i j w h : ℕ) → w ≡ 7 + i → h ≡ 7 + j
@@ -88,6 +89,6 @@ all-totalled state m s₀ s s' matte light same clear matte-is light-is = rw (cl
 pub total-ready : (z : Size) (m s : List ℕ) → totalCheck z (length m) (length s) ≡ Accepted → TotalReady z m s
 unfolding totalCheck
 total-ready z m s e =
-    let lentLengths = sizes-passed z _ e in
-    let lengths = check-passed (total-checks z (length m) (length s)) Accepted (lentLengths .1) .0 in
-    record { lawful = lentLengths .0; planes-are = lengths .0; scratch-is = lengths .1 }
+    let sizes = sizes-passed z _ e in
+    let lengths = check-passed (total-checks z (length m) (length s)) Accepted (sizes .1) .0 in
+    record { lawful = sizes .0; planes-are = lengths .0; scratch-is = lengths .1 }

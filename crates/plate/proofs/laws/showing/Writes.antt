@@ -104,7 +104,8 @@ pub writing-one : (n a : ℕ) (v : ℕ → ℕ → ℕ) (s₀ s : List ℕ) (i w
     → Writing 1 n (λ c. a) v s₀ s i 0 → w ≡ v 0 i → Writing 1 n (λ c. a) v s₀ (set s (a + i) w) (i + 1) 0
 writing-one n a v s₀ s i w h f old e =
     writing-column 1 n (λ c. a) v s₀ _ i h
-    (writing-cell 1 n (λ c. a) v s₀ s _ i 0 w (λ c d i j x y z u q. (omega arith, omega arith)) h (omega arith) (omega arith) old e refl)
+    (writing-cell 1 n (λ c. a) v s₀ s _ i 0 w (λ c d i j x y z u q. (omega arith, omega arith)) h (omega arith)
+    (omega arith) old e refl)
 
 -- a cell after the one that was written
 pub later-cell : (s s' : List ℕ) (a b w : ℕ) → a < b → s' ≡ set s a w → getD s' b 0 ≡ getD s b 0

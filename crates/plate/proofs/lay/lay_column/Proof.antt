@@ -76,7 +76,8 @@ loop-again c =
       omega arith,
       search needs,
       λ v k e. rw (laid .lay-mark .ensures, iteration .before .loop .inv .2 v k e, add-one)
-          (column-more (a .g) v (a .w) _ (now (a .planes)) (a .b .plane) (a .b .count) (a .b .side) (a .x) k (iteration .before .loop .j) e
+          (column-more (a .g) v (a .w) _ (now (a .planes)) (a .b .plane) (a .b .count) (a .b .side) (a .x) k
+          (iteration .before .loop .j) e
           (laid .before .factored .ensures)),
     )
 

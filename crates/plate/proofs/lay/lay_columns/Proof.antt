@@ -27,7 +27,7 @@ abbrev μ-loop : tie.MeasureT-loop
 abbrev start : tie.At-loop Inv-loop μ-loop → tie.Start Inv-loop μ-loop
 start c = c .before .before .before
 
--- the column that a iteration lays is inside
+-- the column that an iteration lays is inside
 inside : (c : tie.In-loop Inv-loop μ-loop)
     → let a = start (c .before) .args in
     AllIn (a .g) (columnMarks (a .b) (margin + c .before .loop .i * a .b .side) 1)
@@ -77,7 +77,8 @@ lay-column-requires c κs =
     let a = s .args in
     let column = inside iteration in
     record {
-      marks-fit = record { planes-are = omega (arith, iteration .before .loop .inv .1, s .pre .0 .planes-are); inside = column .0 };
+      marks-fit =
+          record { planes-are = omega (arith, iteration .before .loop .inv .1, s .pre .0 .planes-are); inside = column .0 };
       last-in = omega (arith, iteration .before .loop .inv .1, s .pre .0 .planes-are, column .1);
       two-at-least = s .pre .1;
       three-at-most = s .pre .2;
@@ -95,7 +96,8 @@ loop-again c =
       rw add-one
           (laid .lay-column .ensures (a .w) (factor (a .b .count) i) (laid .before .factored .ensures)
           ∙ ap
-          (λ (cells : List ℕ). layDrawn (a .g) (a .w) cells (columnMarks (a .b) (margin + i * a .b .side) (factor (a .b .count) i)))
+          (λ (cells : List ℕ). layDrawn (a .g) (a .w) cells
+          (columnMarks (a .b) (margin + i * a .b .side) (factor (a .b .count) i)))
           (iteration .before .loop .inv .2)
           ∙ grid-more (a .g) (a .w) (now (a .planes)) (a .b) i),
     )

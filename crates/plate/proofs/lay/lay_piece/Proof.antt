@@ -15,7 +15,9 @@ lay-mark-requires-2 c κs = omega arith
 
 returns : tie.Need-returns
 unfolding layDrawn
-returns c = λ w k d e f. rw (c .before .before .lay-mark2 .ensures, c .before .before .before .before .before .before .lay-mark .ensures, e, f)
+returns c =
+    λ w k d e f. rw
+    (c .before .before .lay-mark2 .ensures, c .before .before .before .before .before .before .lay-mark .ensures, e, f)
 
 pub lay-piece-spec : {M : Type 1} → statement M
 lay-piece-spec = tie.close (tie.spec lay-mark-requires lay-mark-requires-2 (λ c. search needs) returns)

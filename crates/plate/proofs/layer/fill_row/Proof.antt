@@ -1,4 +1,4 @@
--- A iteration lays and stores the pixel at its place, which is the next one; after the last iteration the row is done.
+-- An iteration lays and stores the pixel at its place, which is the next one; after the last iteration the row is done.
 use mathlib.Core.Path.{_≡_, refl}
 use mathlib.Core.List.{List}
 use Prim.Native.Nat.{ℕ, _+_, _*_, _-_, _≤_, _<_}

@@ -29,8 +29,11 @@ loop-holds c = (search needs, refl, refl, filled-none _ _ _ _ _ (omega arith))
 fill-row-requires : tie.Need-fill-row-requires Inv-loop μ-loop
 fill-row-requires c κs =
     let iteration = c .before .before in
-    let start = entry (iteration .before) in
-    (rw (iteration .before .loop .inv .1, iteration .before .loop .inv .2) (start .pre .0), start .pre .1, iteration .loop-test .taken)
+    let start = entry (iteration .before) in (
+      rw (iteration .before .loop .inv .1, iteration .before .loop .inv .2) (start .pre .0),
+      start .pre .1,
+      iteration .loop-test .taken,
+    )
 
 loop-again : tie.Need-loop-again Inv-loop μ-loop
 unfolding FilledRow

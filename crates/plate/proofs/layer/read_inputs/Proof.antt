@@ -23,7 +23,12 @@ past c opacities =
     let known = c .before in
     let shaped = known .before .before in
     let valued = shaped .before in
-    rw (← valued .before .value-above .ensures, valued .if1 .left, ← shape-read _ _ (shaped .shape-of .ensures), known .known .given .1)
+    rw (
+      ← valued .before .value-above .ensures,
+      valued .if1 .left,
+      ← shape-read _ _ (shaped .shape-of .ensures),
+      known .known .given .1,
+    )
 
 -- the scan for depths past their top
 deep : (c : tie.After-depth-between)

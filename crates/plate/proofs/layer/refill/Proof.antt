@@ -1,4 +1,5 @@
--- Planes and log are cleared; the table is that of the shares; after all rows each pixel's marks lie there and its word is stored.
+-- Planes and log are cleared; the table is that of the shares; after all rows each pixel's marks lie there and its word is
+-- stored.
 use native.Mathlib.Omega.{arith}
 use lib.ListN.{length-replicate}
 use borrow.Author.Needs.{needs}

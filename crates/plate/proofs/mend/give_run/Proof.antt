@@ -14,9 +14,11 @@ returns c =
     let s = counted .before .before .before in
     let a = s .args in
     let count = counted .less .ensures in
-    let light : RunAdded (a .start + a .columns .first) (a .columns .past - a .columns .first) (a .by .light) (a .sums .now) (first .add-run .last .0) =
+    let light : RunAdded (a .start + a .columns .first) (a .columns .past - a .columns .first) (a .by .light) (a .sums .now)
+    (first .add-run .last .0) =
     rw (← count) (first .add-run .ensures) in
-    let matte : RunAdded (a .places + (a .start + a .columns .first)) (a .columns .past - a .columns .first) (a .by .matte) (first .add-run .last .0) (second .add-run2 .last .0) =
+    let matte : RunAdded (a .places + (a .start + a .columns .first)) (a .columns .past - a .columns .first) (a .by .matte)
+    (first .add-run .last .0) (second .add-run2 .last .0) =
     rw (← count) (second .add-run2 .ensures) in
     run-given _ _ _ _ _ _ _ (s .pre) light matte
 

@@ -14,16 +14,18 @@ use Rattle.plate.proofs.mend.mend.Tie as tie
 
 abbrev Inv-loop : tie.InvT-loop
 Inv-loop size change sums₀ values₀ mattes₀ old-share new-share old-reach new-reach first past row₀ sums values mattes row =
-    (first ≤ row) × MendedWhere size change (InRows size change first row) (canvas sums₀ values₀ mattes₀) (canvas sums values mattes)
+    (first ≤ row)
+    × MendedWhere size change (InRows size change first row) (canvas sums₀ values₀ mattes₀) (canvas sums values mattes)
 
 abbrev μ-loop : tie.MeasureT-loop
-μ-loop size change sums₀ values₀ mattes₀ old-share new-share old-reach new-reach first past row₀ sums values mattes row = past - row
+μ-loop size change sums₀ values₀ mattes₀ old-share new-share old-reach new-reach first past row₀ sums values mattes row =
+    past - row
 
 -- where the call starts, and what is known before the loop
 abbrev start : tie.After-greater Inv-loop μ-loop → tie.Start Inv-loop μ-loop
 start c = c .before .before .before .before .before .before .before .before .before .before
 
-abbrev shaped : tie.In-loop Inv-loop μ-loop → tie.After-columns-around Inv-loop μ-loop
+abbrev shaped : tie.In-loop Inv-loop μ-loop → tie.After-cells-around Inv-loop μ-loop
 shaped c = c .before .before
 
 -- the farther of both reaches is the plate's at most
@@ -52,19 +54,19 @@ reaches c =
       ),
     )
 
-add-columns-around : tie.Need-add-columns-around Inv-loop μ-loop
-add-columns-around c = omega (arith, reaches c .2)
+add-cells-around : tie.Need-add-cells-around Inv-loop μ-loop
+add-cells-around c = omega (arith, reaches c .2)
 
-columns-around-requires : tie.Need-columns-around-requires Inv-loop μ-loop
-columns-around-requires c κs =
+cells-around-requires : tie.Need-cells-around-requires Inv-loop μ-loop
+cells-around-requires c κs =
     let s = start c in (s .pre .change .row-in, s .pre .change .lawful .height-top, omega (arith, reaches c .2))
 
 loop-holds : tie.Need-loop-holds Inv-loop μ-loop
 loop-holds c = (omega arith, mended-none _ _ _ _ (λ i s. omega (arith, s .0, s .1)))
 
--- a row of the columns is one of the plate's
+-- a row of the range is one of the plate's
 row-in : (c : tie.In-loop Inv-loop μ-loop) → c .before .loop .row < start (shaped c .before) .args .size .height
-row-in c = omega (arith, c .loop-test .taken, shaped c .columns-around .ensures .1)
+row-in c = omega (arith, c .loop-test .taken, shaped c .cells-around .ensures .1)
 
 mend-row-requires : tie.Need-mend-row-requires Inv-loop μ-loop
 mend-row-requires c κs =
@@ -73,7 +75,10 @@ mend-row-requires c κs =
     let iteration = test .before .loop in (
       still-ready _ _ _ (start made .pre) _ _ (iteration .inv .1),
       (
-        record { old-is = made .before .before .before .before .share-of .ensures; new-is = made .before .before .before .share-of2 .ensures },
+        record {
+          old-is = made .before .before .before .before .share-of .ensures;
+          new-is = made .before .before .before .share-of2 .ensures;
+        },
         row-in test,
       ),
     )
@@ -91,8 +96,11 @@ loop-less c =
 loop-again : tie.Need-loop-again Inv-loop μ-loop
 loop-again c =
     let made = c .before .before .before .before .before .before in
-    let iteration = made .before .before .before .before .before .loop in
-    (omega (arith, iteration .inv .0), rows-next _ _ _ (iteration .row) _ _ _ (iteration .inv .0) (iteration .inv .1) (made .mend-row .ensures))
+    let iteration = made .before .before .before .before .before .loop in (
+      omega (arith, iteration .inv .0),
+      rows-next _ _ _ (iteration .row) _ _ _ (iteration .inv .0) (iteration .inv .1)
+          (made .mend-row .ensures),
+    )
 
 same-length : tie.Need-same-length Inv-loop μ-loop
 same-length c = c .before .loop .inv .1 .same-sums
@@ -110,7 +118,8 @@ returns c =
     let pre = start (shape .before) .pre in
     let far = reaches (shape .before) in
     all-mended _ _ _ _ (pre .sums-are) (pre .values-are) (pre .mattes-are)
-    (rows-mended _ _ _ _ _ _ (iteration .row) _ pre (far .0) (far .1) (shape .columns-around .ensures .0) (shape .columns-around .ensures .1)
+    (rows-mended _ _ _ _ _ _ (iteration .row) _ pre (far .0) (far .1) (shape .cells-around .ensures .0)
+    (shape .cells-around .ensures .1)
     (omega arith) (iteration .inv .1))
 
 pub mend-spec : {M : Type 1} → statement M
@@ -124,8 +133,8 @@ mend-spec =
     (λ c κs. search needs)
     (λ c κs. search needs)
     (λ c κs. search needs)
-    add-columns-around
-    columns-around-requires
+    add-cells-around
+    cells-around-requires
     loop-holds
     mend-row-requires
     add-row

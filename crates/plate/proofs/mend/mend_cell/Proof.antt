@@ -39,7 +39,8 @@ mul-mend-sum-2 c =
 slice-write-sums-2 : tie.Need-slice-write-sums-2
 slice-write-sums-2 c =
     let s = c .before .before .before .before .before .before .before .before .before .before .before .before .before in
-    omega (arith, length-set (s .args .sums .now) (s .args .place) (c .before .mend-sum .result), s .pre .place-in, s .pre .sums-are)
+    omega
+    (arith, length-set (s .args .sums .now) (s .args .place) (c .before .mend-sum .result), s .pre .place-in, s .pre .sums-are)
 
 returns : tie.Need-returns
 returns c =

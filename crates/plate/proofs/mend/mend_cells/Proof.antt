@@ -1,4 +1,4 @@
--- `mend::mend_cells` meets its contract. The invariant: the columns of the columns before this one are mended.
+-- `mend::mend_cells` meets its contract. The invariant: the columns of the range before this one are mended.
 use Prim.Native.Nat.{_+_, _*_, _-_, _≤_, _<_}
 use native.Mathlib.Omega.{arith}
 use borrow.Author.Needs.{needs}
@@ -6,7 +6,7 @@ use Rattle.plate_model.specs.Lent.{canvas}
 use Rattle.plate_model.specs.Fixed.{placesTop}
 use Rattle.plate.specs.Mending.{MendedWhere}
 use Rattle.plate_model.proofs.numbers.Extents.{place-within}
-use Rattle.plate.proofs.laws.mending.Mended.{InColumns, mended-none, columns-next}
+use Rattle.plate.proofs.laws.mending.Mended.{InRange, mended-none, range-next}
 use Rattle.plate.proofs.laws.mending.Rows.{still-ready, cell-ready, column-mended, row-mended, span-low}
 use Rattle.plate.proofs.mend.mend_cells.Statement.{statement}
 use Rattle.plate.proofs.mend.mend_cells.Tie as tie
@@ -15,22 +15,22 @@ abbrev Inv-loop : tie.InvT-loop
 Inv-loop sums₀ values₀ mattes₀ size change old new row places span first past column₀ sums values mattes column =
     (first ≤ column)
     × (column ≤ first + (past - first))
-    × MendedWhere size change (InColumns size row first column) (canvas sums₀ values₀ mattes₀) (canvas sums values mattes)
+    × MendedWhere size change (InRange size row first column) (canvas sums₀ values₀ mattes₀) (canvas sums values mattes)
 
 abbrev μ-loop : tie.MeasureT-loop
 μ-loop sums₀ values₀ mattes₀ size change old new row places span first past column₀ sums values mattes column = past - column
 
 -- where the call starts
-abbrev start : tie.After-columns-around Inv-loop μ-loop → tie.Start Inv-loop μ-loop
+abbrev start : tie.After-cells-around Inv-loop μ-loop → tie.Start Inv-loop μ-loop
 start c = c .before .before .before .before .before .before
 
 -- what is known of the row before the loop
-abbrev shaped : tie.In-loop Inv-loop μ-loop → tie.After-columns-around Inv-loop μ-loop
+abbrev shaped : tie.In-loop Inv-loop μ-loop → tie.After-cells-around Inv-loop μ-loop
 shaped c = c .before .before
 
--- a column of the columns is one of the plate's
+-- a column of the range is one of the plate's
 column-in : (c : tie.In-loop Inv-loop μ-loop) → c .before .loop .column < start (shaped c) .args .size .width
-column-in c = omega (arith, c .loop-test .taken, shaped c .columns-around .ensures .1)
+column-in c = omega (arith, c .loop-test .taken, shaped c .cells-around .ensures .1)
 
 -- and its place is far below 2 ^ 64
 place-in : (c : tie.In-loop Inv-loop μ-loop) → let a = start (shaped c) .args in
@@ -39,7 +39,8 @@ place-in c =
     let s = start (shaped c) in
     omega (
       arith,
-      place-within (c .before .loop .column) (s .args .row) (s .args .size .width) (s .args .size .height) (column-in c) (s .pre .row-in),
+      place-within (c .before .loop .column) (s .args .row) (s .args .size .width) (s .args .size .height) (column-in c)
+          (s .pre .row-in),
       s .pre .ready .change .lawful .places-top,
     )
 
@@ -47,8 +48,8 @@ mul-places : tie.Need-mul-places Inv-loop μ-loop
 mul-places c =
     let pre = c .before .before .before .before .pre in omega (arith, pre .ready .change .lawful .places-top)
 
-columns-around-requires : tie.Need-columns-around-requires Inv-loop μ-loop
-columns-around-requires c κs =
+cells-around-requires : tie.Need-cells-around-requires Inv-loop μ-loop
+cells-around-requires c κs =
     let s = c .before .before .before .before .before in (
       s .pre .ready .change .column-in,
       s .pre .ready .change .lawful .width-top,
@@ -69,7 +70,8 @@ mend-cell-requires c κs =
     let test = c .before .before .before .before .before in
     let iteration = test .before .loop in
     let s = start (shaped test) in
-    cell-ready _ _ _ (still-ready _ _ _ (s .pre .ready) _ _ (iteration .inv .2)) (s .args .row) (s .pre .row-in) _ _ (s .pre .old-is) (s .pre .new-is)
+    cell-ready _ _ _ (still-ready _ _ _ (s .pre .ready) _ _ (iteration .inv .2)) (s .args .row) (s .pre .row-in) _ _
+    (s .pre .old-is) (s .pre .new-is)
     (iteration .column) (column-in test)
 
 add-column : tie.Need-add-column Inv-loop μ-loop
@@ -91,8 +93,9 @@ loop-again c =
     let done = rw (made .before .before .before .before .distance .ensures) at (made .mend-cell .ensures) in (
       omega (arith, iteration .inv .0),
       omega (arith, iteration .inv .1, test .loop-test .taken),
-      columns-next _ _ (s .args .row) _ (iteration .column) _ _ _ (column-in test) (iteration .inv .0) (iteration .inv .2)
-          (column-mended _ _ _ (still-ready _ _ _ (s .pre .ready) _ _ (iteration .inv .2)) (s .args .row) (s .pre .row-in) _ _ (s .pre .old-is) (s .pre .new-is)
+      range-next _ _ (s .args .row) _ (iteration .column) _ _ _ (column-in test) (iteration .inv .0) (iteration .inv .2)
+          (column-mended _ _ _ (still-ready _ _ _ (s .pre .ready) _ _ (iteration .inv .2)) (s .args .row) (s .pre .row-in) _ _
+          (s .pre .old-is) (s .pre .new-is)
           (iteration .column) _ (column-in test) done),
     )
 
@@ -110,8 +113,9 @@ returns c =
     let iteration = c .before .loop in
     let made = c .before .before in
     let s = start made in
-    row-mended _ _ _ (s .pre .ready) (s .args .row) (s .pre .row-in) _ _ (s .pre .old-is) (s .pre .new-is) _ _ (iteration .column) _ _ (made .before .greater .ensures)
-    (made .columns-around .ensures .0) (made .columns-around .ensures .1) (omega arith) (iteration .inv .1) (iteration .inv .2)
+    row-mended _ _ _ (s .pre .ready) (s .args .row) (s .pre .row-in) _ _ (s .pre .old-is) (s .pre .new-is) _ _
+    (iteration .column) _ _ (made .before .greater .ensures)
+    (made .cells-around .ensures .0) (made .cells-around .ensures .1) (omega arith) (iteration .inv .1) (iteration .inv .2)
 
 pub mend-cells-spec : {M : Type 1} → statement M
 mend-cells-spec =
@@ -121,7 +125,7 @@ mend-cells-spec =
     μ-loop
     mul-places
     (λ c κs. search needs)
-    columns-around-requires
+    cells-around-requires
     loop-holds
     mul-place
     add-place

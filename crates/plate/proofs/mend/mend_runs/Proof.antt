@@ -26,15 +26,17 @@ row-low s = let a = s .args in row-in (a .row) (a .size .width) (a .size .height
 mul-start : tie.Need-mul-start
 mul-start c = let s = c .before .before .before .before in omega (arith, row-low s, places-low s)
 
-columns-around-requires : tie.Need-columns-around-requires
-columns-around-requires c κs =
+cells-around-requires : tie.Need-cells-around-requires
+cells-around-requires c κs =
     let s = c .before .before .before .before in
-    let r = s .pre .0 in (r .ready .change .column-in, r .ready .change .lawful .width-top, omega (arith, span-low _ _ _ _ _ _ r .0))
+    let r = s .pre .0 in
+    (r .ready .change .column-in, r .ready .change .lawful .width-top, omega (arith, span-low _ _ _ _ _ _ r .0))
 
-columns-around-requires-2 : tie.Need-columns-around-requires-2
-columns-around-requires-2 c κs =
+cells-around-requires-2 : tie.Need-cells-around-requires-2
+cells-around-requires-2 c κs =
     let s = c .before .before .before .before .before in
-    let r = s .pre .0 in (r .ready .change .column-in, r .ready .change .lawful .width-top, omega (arith, span-low _ _ _ _ _ _ r .1))
+    let r = s .pre .0 in
+    (r .ready .change .column-in, r .ready .change .lawful .width-top, omega (arith, span-low _ _ _ _ _ _ r .1))
 
 level-amounts-requires : tie.Need-level-amounts-requires
 level-amounts-requires c κs =
@@ -44,7 +46,7 @@ level-amounts-requires c κs =
 give-run-requires : tie.Need-give-run-requires
 give-run-requires c κs =
     let s = c .before .before .before .before .before .before .before .before .before in
-    run-in _ _ _ _ _ _ (s .pre .0) _ _ (c .before .before .before .before .columns-around .ensures) _ (s .pre .0 .ready .sums-are)
+    run-in _ _ _ _ _ _ (s .pre .0) _ _ (c .before .before .before .before .cells-around .ensures) _ (s .pre .0 .ready .sums-are)
 
 level-amounts-requires-2 : tie.Need-level-amounts-requires-2
 level-amounts-requires-2 c κs =
@@ -54,27 +56,32 @@ level-amounts-requires-2 c κs =
 give-run-requires-2 : tie.Need-give-run-requires-2
 give-run-requires-2 c κs =
     let s = c .before .before .before .before .before .before .before .before .before .before .before .before .before .before in
-    run-in _ _ _ _ _ _ (s .pre .0) _ _ (c .before .before .before .before .before .before .before .before .columns-around2 .ensures) _
+    run-in _ _ _ _ _ _ (s .pre .0) _ _
+    (c .before .before .before .before .before .before .before .before .cells-around2 .ensures) _
     (c .before .before .before .before .give-run .ensures .same ∙ s .pre .0 .ready .sums-are)
 
-columns-around-requires-3 : tie.Need-columns-around-requires-3
-columns-around-requires-3 c κs =
-    let s = c .before .before .before .before .before .before .before .before .before .before .before .before .before .before .before .before .before .before in
+cells-around-requires-3 : tie.Need-cells-around-requires-3
+cells-around-requires-3 c κs =
+    let given = c .before .before .before .before .before .before .before .before .before in
+    let s = given .before .before .before .before .before .before .before .before .before in
     let r = s .pre .0 in
     let low = span-low _ _ _ _ _ _ r in
     (r .ready .change .column-in, r .ready .change .lawful .width-top, omega (arith, c .greater .ensures, low .0, low .1))
 
--- where the wider columns is made, and the call's start
-abbrev start : tie.After-columns-around3 → tie.Start
-start c = c .before .before .before .before .before .before .before .before .before .before .before .before .before .before .before .before .before .before .before
+-- where the wider range is made, and the call's start
+abbrev start : tie.After-cells-around3 → tie.Start
+start c =
+    let given = c .before .before .before .before .before .before .before .before .before .before in
+    given .before .before .before .before .before .before .before .before .before
 
--- the wider columns lies in the row
-wide-in : (c : tie.After-columns-around3) → let a = start c .args in
-    let s = c .columns-around3 .result in
-    (a .row * a .size .width + s .first ≤ a .size .width * a .size .height) × (a .row * a .size .width + s .past ≤ a .size .width * a .size .height)
+-- the wider range lies in the row
+wide-in : (c : tie.After-cells-around3) → let a = start c .args in
+    let s = c .cells-around3 .result in
+    (a .row * a .size .width + s .first ≤ a .size .width * a .size .height)
+    × (a .row * a .size .width + s .past ≤ a .size .width * a .size .height)
 wide-in c =
     let s = start c in
-    let e = c .columns-around3 .ensures in
+    let e = c .cells-around3 .ensures in
     (omega (arith, e .0, s .pre .0 .ready .change .column-in, row-low s), omega (arith, e .1, row-low s))
 
 add-first : tie.Need-add-first
@@ -111,21 +118,27 @@ returns c =
     let a = s .args in
     let n = a .size .width * a .size .height in
     let from = a .row * a .size .width in
-    let first = narrow .before .columns-around in
-    let second = narrow .columns-around2 in
-    let wide = made .columns-around3 in
+    let first = narrow .before .cells-around in
+    let second = narrow .cells-around2 in
+    let wide = made .cells-around3 in
     let by = old .before .opposite .ensures ∙ ap (λ (w : Amounts). times w (minus 1)) (worth .level-amounts .ensures) in
     let count = seen .before .before .before .before .less .ensures in
-    let taken : RunGiven n from (first .result) (times (levelAmounts (a .old)) (minus 1)) (a .sums .now) (old .give-run .last .0) =
+    let taken : RunGiven n from (first .result) (times (levelAmounts (a .old)) (minus 1)) (a .sums .now)
+    (old .give-run .last .0) =
     subst (λ w. RunGiven n from (first .result) w (a .sums .now) (old .give-run .last .0)) by (old .give-run .ensures) in
     let given : RunGiven n from (second .result) (levelAmounts (a .new)) (old .give-run .last .0) (new .give-run2 .last .0) =
-    subst (λ w. RunGiven n from (second .result) w (old .give-run .last .0) (new .give-run2 .last .0)) (new .before .level-amounts2 .ensures)
+    subst (λ w. RunGiven n from (second .result) w (old .give-run .last .0) (new .give-run2 .last .0))
+    (new .before .level-amounts2 .ensures)
     (new .give-run2 .ensures) in
-    let shown : RowShown (new .give-run2 .last .0) (from + wide .result .first) (n + (from + wide .result .first)) (from + wide .result .first)
-    (wide .result .past - wide .result .first) (a .values .now) (seen .round-row .last .0) (a .mattes .now) (seen .round-row .last .1 .0) =
+    let shown : RowShown (new .give-run2 .last .0) (from + wide .result .first) (n + (from + wide .result .first))
+    (from + wide .result .first)
+    (wide .result .past - wide .result .first) (a .values .now) (seen .round-row .last .0) (a .mattes .now)
+    (seen .round-row .last .1 .0) =
     rw (← count) (seen .round-row .ensures) in
-    runs-mended (a .size) (a .change) (a .row) (a .old) (a .new) (canvas (a .sums .now) (a .values .now) (a .mattes .now)) (s .pre .0)
-    (s .pre .1 .0) (s .pre .1 .1) (first .result) (second .result) (wide .result) _ (made .before .greater .ensures) (first .ensures)
+    runs-mended (a .size) (a .change) (a .row) (a .old) (a .new) (canvas (a .sums .now) (a .values .now) (a .mattes .now))
+    (s .pre .0)
+    (s .pre .1 .0) (s .pre .1 .1) (first .result) (second .result) (wide .result) _ (made .before .greater .ensures)
+    (first .ensures)
     (second .ensures) (wide .ensures) _ _ _ _ taken given shown
 
 pub mend-runs-spec : {M : Type 1} → statement M
@@ -134,15 +147,15 @@ mend-runs-spec =
     (tie.spec
     (λ c. search needs)
     mul-start
-    columns-around-requires
-    columns-around-requires-2
+    cells-around-requires
+    cells-around-requires-2
     level-amounts-requires
     (λ c κs. search needs)
     give-run-requires
     level-amounts-requires-2
     give-run-requires-2
     (λ c κs. search needs)
-    columns-around-requires-3
+    cells-around-requires-3
     add-first
     (λ c κs. search needs)
     add-round-row

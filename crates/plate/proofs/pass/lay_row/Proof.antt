@@ -13,7 +13,8 @@ use Rattle.plate.proofs.pass.lay_row.Tie as tie
 abbrev Inv-loop : tie.InvT-loop
 Inv-loop scratch₀ planes columns rising-one rising-two marks apart x₀ scratch x =
     (x ≤ columns)
-    × Writing 2 columns (rowStart rising-one rising-two) (risingCell planes scratch₀ rising-one rising-two marks apart) scratch₀ scratch x 0
+    × Writing 2 columns (rowStart rising-one rising-two)
+    (risingCell planes scratch₀ rising-one rising-two marks apart) scratch₀ scratch x 0
 
 abbrev μ-loop : tie.MeasureT-loop
 μ-loop scratch₀ planes columns rising-one rising-two marks apart x₀ scratch x = columns - x

@@ -1,4 +1,5 @@
--- `pass::start_sums` meets its contract: cleared cells are what lines without marks hold. The invariant: the rows from this one on
+-- `pass::start_sums` meets its contract: cleared cells are what lines without marks hold. The invariant: the rows from this one
+-- on
 -- are laid.
 use mathlib.Core.Path.{_≡_, ap}
 use mathlib.Core.List.{List}
@@ -10,7 +11,8 @@ use borrow.Rule.Slice.PartMut.{putMid}
 use Rattle.plate.specs.Passes.{Starts, startsAt, sumsEnd, OnlySums}
 use Rattle.plate.proofs.laws.numbers.Parts.{cleared-same, cleared-before, cleared-in, cleared-after}
 use Rattle.plate.proofs.laws.showing.Starts.{in-order}
-use Rattle.plate.proofs.laws.showing.RisingStart.{channel-on, LayReady, LaidFrom, laid-start, laid-next, laid-all, laid-from}
+use Rattle.plate.proofs.laws.showing.RisingStart.{channel-on, LayReady, LaidFrom, laid-start, laid-next, laid-all}
+use Rattle.plate.proofs.laws.showing.RisingStart.{laid-from}
 use Rattle.plate.proofs.pass.start_sums.Statement.{statement}
 use Rattle.plate.proofs.pass.start_sums.Tie as tie
 
@@ -45,7 +47,8 @@ cleared c =
     let p = start (made c) .args .channel in
     putMid (p .sums) (end (made c) - p .sums) (start (made c) .args .scratch .now) (c .clear .last .0)
 
-only-sums : (c : tie.After-clear Inv-loop μ-loop) → OnlySums (start (made c) .args .channel) (start (made c) .args .scratch .now) (cleared c)
+only-sums : (c : tie.After-clear Inv-loop μ-loop)
+    → OnlySums (start (made c) .args .channel) (start (made c) .args .scratch .now) (cleared c)
 only-sums c =
     let past = end-past (made c) in
     let in-all = end-in (made c) in
@@ -86,7 +89,8 @@ lay-row-requires : tie.Need-lay-row-requires Inv-loop μ-loop
 lay-row-requires c κs =
     let iteration = c .before .before .before .loop in
     let same = only-sums (c .before .before .before .before .before .before) .same in
-    rw (c .starts-at2 .ensures) (in-order _ _ _ _ (omega arith) (omega arith) (omega (arith, iteration .inv .1 .same, same)) (omega arith))
+    rw (c .starts-at2 .ensures)
+    (in-order _ _ _ _ (omega arith) (omega arith) (omega (arith, iteration .inv .1 .same, same)) (omega arith))
 
 loop-again : tie.Need-loop-again Inv-loop μ-loop
 loop-again c =
@@ -95,7 +99,8 @@ loop-again c =
     let pre = start (made (laid .before .before .before .before .before .before .before)) .pre in
     let e : iteration .row - 1 + 1 ≡ iteration .row = omega arith in (
       omega arith,
-      laid-next _ _ _ (iteration .scratch) _ (iteration .row - 1) (pre .some) (pre .narrow) (omega arith) (rw (← e) at (iteration .inv .1))
+      laid-next _ _ _ (iteration .scratch) _ (iteration .row - 1) (pre .some) (pre .narrow) (omega arith)
+          (rw (← e) at (iteration .inv .1))
           (rw (laid .before .starts-at2 .ensures) at (laid .lay-row .ensures)),
     )
 

@@ -25,12 +25,15 @@ rowStarts third second falling-one falling-two rising-one rising-two down marks 
     }
 
 abbrev Inv-loop : tie.InvT-loop
-Inv-loop scratch₀ planes columns third second falling-one falling-two rising-one rising-two down marks apart sums₀ x₀ scratch sums x =
+Inv-loop scratch₀ planes columns third second falling-one falling-two rising-one rising-two down marks apart sums₀ x₀
+    scratch sums x =
     (x ≤ columns)
-    × SummingAt planes scratch₀ scratch (rowStarts third second falling-one falling-two rising-one rising-two down marks apart) columns x sums
+    × SummingAt planes scratch₀ scratch
+    (rowStarts third second falling-one falling-two rising-one rising-two down marks apart) columns x sums
 
 abbrev μ-loop : tie.MeasureT-loop
-μ-loop scratch₀ planes columns third second falling-one falling-two rising-one rising-two down marks apart sums₀ x₀ scratch sums x = columns - x
+μ-loop scratch₀ planes columns third second falling-one falling-two rising-one rising-two down marks apart sums₀ x₀
+    scratch sums x = columns - x
 
 loop-holds : tie.Need-loop-holds Inv-loop μ-loop
 loop-holds c = (search needs, summing-start _ _ _ _)
@@ -149,7 +152,8 @@ loop-again c =
     let iteration = test .before .loop in
     let start = test .before .before .before .before in (
       omega (arith, test .loop-test .taken),
-      summing-next _ _ (iteration .scratch) _ _ _ _ _ _ _ (iteration .x) _ _ _ _ _ _ (start .pre) (test .loop-test .taken) (iteration .inv .1)
+      summing-next _ _ (iteration .scratch) _ _ _ _ _ _ _ (iteration .x) _ _ _ _ _ _ (start .pre) (test .loop-test .taken)
+          (iteration .inv .1)
           (boxes .add-boxes .ensures) (falling .add-marks .ensures) (rising .take-marks-off .ensures)
           (down .before .add-three .ensures) (down .add-to .ensures),
     )

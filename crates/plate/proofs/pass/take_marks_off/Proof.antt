@@ -35,7 +35,8 @@ mul-wrapping-sub-u64 : tie.Need-mul-wrapping-sub-u64
 mul-wrapping-sub-u64 c = let start = c .before .before .before .before in omega (arith, start .pre, start .good)
 
 shared-slice-read-wrapping-sub-u64 : tie.Need-shared-slice-read-wrapping-sub-u64
-shared-slice-read-wrapping-sub-u64 c = let start = c .before .before .before .before .before in omega (arith, start .pre, start .good)
+shared-slice-read-wrapping-sub-u64 c = let start =
+    c .before .before .before .before .before in omega (arith, start .pre, start .good)
 
 mul-scratch : tie.Need-mul-scratch
 mul-scratch c = let start = first c in omega (arith, start .pre, start .good)

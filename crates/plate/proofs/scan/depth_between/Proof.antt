@@ -79,7 +79,8 @@ returns c =
     let a = start .args in
     let z = a .size in (
       iteration .inv .1
-          ∙ sym (none-found (isBetween (a .above) (a .most)) _ (z .width) (z .height) (iteration .y) (start .pre) (c .rows-test .left)
+          ∙ sym
+          (none-found (isBetween (a .above) (a .most)) _ (z .width) (z .height) (iteration .y) (start .pre) (c .rows-test .left)
           (iteration .inv .2)),
       λ e. small-all (a .depths .now) (z .width) (z .height) (iteration .y) (start .pre) (c .rows-test .left) (iteration .inv .3),
     )
@@ -92,7 +93,9 @@ returns-2 c =
     let start = rows .before .before .before in
     let a = start .args in
     let z = a .size in (
-      sym (one-found (isBetween (a .above) (a .most)) _ (z .width) (z .height) (iteration .before .loop .x) (rows .before .rows .y)
+      sym
+          (one-found (isBetween (a .above) (a .most)) _ (z .width) (z .height) (iteration .before .loop .x)
+          (rows .before .rows .y)
           (start .pre)
           (iteration .loop-test .taken)
           (rows .rows-test .taken)

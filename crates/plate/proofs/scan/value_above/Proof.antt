@@ -70,7 +70,8 @@ returns c =
     let start = c .before .before in
     let z = start .args .size in
     iteration .inv .1
-    ∙ sym (none-found (ltb valueTop) _ (z .width) (z .height) (iteration .y) (start .pre) (c .rows-test .left) (iteration .inv .2))
+    ∙ sym
+    (none-found (ltb valueTop) _ (z .width) (z .height) (iteration .y) (start .pre) (c .rows-test .left) (iteration .inv .2))
 
 returns-2 : tie.Need-returns-2 Inv-loop μ-loop Inv-rows μ-rows
 returns-2 c =

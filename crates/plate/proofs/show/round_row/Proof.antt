@@ -12,7 +12,8 @@ use Rattle.plate.proofs.show.round_row.Tie as tie
 abbrev Inv-loop : tie.InvT-loop
 Inv-loop values₀ mattes₀ scratch light matte first width x₀ values mattes x =
     (x ≤ width)
-    × Writing 1 width (λ c. first) (λ c x. shownValue (getD scratch (light + x) 0) (getD scratch (matte + x) 0)) values₀ values x 0
+    × Writing 1 width (λ c. first)
+    (λ c x. shownValue (getD scratch (light + x) 0) (getD scratch (matte + x) 0)) values₀ values x 0
     × Writing 1 width (λ c. first) (λ c x. shownMatte (getD scratch (matte + x) 0)) mattes₀ mattes x 0
 
 abbrev μ-loop : tie.MeasureT-loop
@@ -76,8 +77,10 @@ loop-again c =
     let iteration = test .before .loop in
     let pre = start test .pre in (
       omega (arith, test .loop-test .taken),
-      writing-one _ _ _ _ (iteration .values) (iteration .x) _ (test .loop-test .taken) (pre .values-in) (iteration .inv .1) (valued .shown-value .ensures),
-      writing-one _ _ _ _ (iteration .mattes) (iteration .x) _ (test .loop-test .taken) (pre .mattes-in) (iteration .inv .2) (c .shown-matte .ensures),
+      writing-one _ _ _ _ (iteration .values) (iteration .x) _ (test .loop-test .taken) (pre .values-in) (iteration .inv .1)
+          (valued .shown-value .ensures),
+      writing-one _ _ _ _ (iteration .mattes) (iteration .x) _ (test .loop-test .taken) (pre .mattes-in) (iteration .inv .2)
+          (c .shown-matte .ensures),
     )
 
 returns : tie.Need-returns Inv-loop μ-loop

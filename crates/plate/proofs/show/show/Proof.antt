@@ -16,7 +16,8 @@ start c = c .before .before .before .before .before .before .before
 -- the check passed
 passed : (c : tie.After-enum-told)
     → let a = start c .args in
-    showCheck (a .state) (length (now (a .planes))) (length (now (a .scratch))) (length (now (a .values))) (length (now (a .mattes)))
+    showCheck (a .state) (length (now (a .planes))) (length (now (a .scratch))) (length (now (a .values)))
+    (length (now (a .mattes)))
     ≡ Accepted
 passed c = sym (c .before .before .check-show .ensures) ∙ c .enum-told .given .1
 

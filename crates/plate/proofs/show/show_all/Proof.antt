@@ -12,7 +12,8 @@ use Rattle.plate.proofs.show.show_all.Tie as tie
 abbrev start : tie.After-light-channel → tie.Start
 start c = c .before .before .before .before .before .before
 
-fits : (c : tie.After-light-channel) → BothIn (c .light-channel .result) (start c .args .scratch .now) (start c .args .planes .now)
+fits : (c : tie.After-light-channel)
+    → BothIn (c .light-channel .result) (start c .args .scratch .now) (start c .args .planes .now)
 fits c = ready-both _ _ _ _ (c .light-channel .ensures) (start c .pre .sums)
 
 light-channel-requires : tie.Need-light-channel-requires

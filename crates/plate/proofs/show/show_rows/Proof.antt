@@ -14,10 +14,12 @@ use Rattle.plate.proofs.show.show_rows.Tie as tie
 abbrev Inv-loop : tie.InvT-loop
 Inv-loop values₀ mattes₀ scratch₀ planes light first width height light-end light-down matte-down row₀ values mattes scratch row =
     (row ≤ height)
-    × ShowingAt light (record { first = first; width = width; height = height }) planes scratch₀ scratch values₀ values mattes₀ mattes row
+    × ShowingAt light
+    (record { first = first; width = width; height = height }) planes scratch₀ scratch values₀ values mattes₀ mattes row
 
 abbrev μ-loop : tie.MeasureT-loop
-μ-loop values₀ mattes₀ scratch₀ planes light first width height light-end light-down matte-down row₀ values mattes scratch row = height - row
+μ-loop values₀ mattes₀ scratch₀ planes light first width height light-end light-down matte-down row₀ values mattes scratch row =
+    height - row
 
 abbrev start : tie.After-matte-after Inv-loop μ-loop → tie.Start Inv-loop μ-loop
 start c = c .before .before .before .before .before
@@ -113,8 +115,11 @@ loop-again c =
         same-values = shown .round-row .ensures .in-values .same ∙ now .same-values;
         same-mattes = shown .round-row .ensures .in-mattes .same ∙ now .same-mattes;
         both = record { same = sums .same ∙ now .both .same; to = rw e (sums .to) };
-        done = shown-next _ _ _ _ _ _ _ _ (iteration .row) _ _ (row-finished _ _ _ _ (iteration .row) _ _ (pre .columns-are) (sums .to)
-            (omega (arith, from, pre .columns-are)) (omega (arith, from, pre .columns-are))) (now .done) (shown .round-row .ensures);
+        done =
+            shown-next _ _ _ _ _ _ _ _ (iteration .row) _ _
+            (row-finished _ _ _ _ (iteration .row) _ _ (pre .columns-are) (sums .to)
+            (omega (arith, from, pre .columns-are))
+            (omega (arith, from, pre .columns-are))) (now .done) (shown .round-row .ensures);
       },
     )
 

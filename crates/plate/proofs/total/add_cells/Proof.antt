@@ -46,8 +46,11 @@ loop-again : tie.Need-loop-again Inv-loop μ-loop
 unfolding sumOf
 loop-again c =
     let test = c .before .before in
-    let iteration = test .before .loop in
-    (omega (arith, test .loop-test .taken), rw (add-one (iteration .x)) (omega (arith, c .wrapping-add-u64 .ensures, iteration .inv .1)))
+    let iteration = test .before .loop in (
+      omega (arith, test .loop-test .taken),
+      rw (add-one (iteration .x))
+          (omega (arith, c .wrapping-add-u64 .ensures, iteration .inv .1)),
+    )
 
 returns : tie.Need-returns Inv-loop μ-loop
 returns c =

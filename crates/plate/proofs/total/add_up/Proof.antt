@@ -1,4 +1,5 @@
--- `total::add_up` meets its contract. The invariant: the finished cells of the rows before this one are added up, and the sums are
+-- `total::add_up` meets its contract. The invariant: the finished cells of the rows before this one are added up, and the sums
+-- are
 -- ready for it.
 use mathlib.Core.Path.{_≡_, ap, _∙_}
 use Prim.Native.Nat.{_-_, _≤_}
@@ -53,7 +54,13 @@ add-cells-requires : tie.Need-add-cells-requires Inv-loop μ-loop
 add-cells-requires c κs =
     let summed = c .before .before .before in
     let iteration = summed .before .before .before in
-    omega (arith, down-is (iteration .before), summed .sum-next .ensures .only .same, same-as iteration, start (iteration .before) .pre .sums-in)
+    omega (
+      arith,
+      down-is (iteration .before),
+      summed .sum-next .ensures .only .same,
+      same-as iteration,
+      start (iteration .before) .pre .sums-in,
+    )
 
 add-row : tie.Need-add-row Inv-loop μ-loop
 add-row c =
@@ -71,7 +78,8 @@ loop-again c =
     let sums = summed .sum-next .ensures in (
       omega (arith, test .loop-test .taken),
       (
-        added-next _ _ _ (iteration .loop .scratch) _ (iteration .loop .row) (iteration .loop .sum) _ _ (iteration .loop .inv .1 .0) (sums .only .same) (sums .to)
+        added-next _ _ _ (iteration .loop .scratch) _ (iteration .loop .row) (iteration .loop .sum) _ _
+            (iteration .loop .inv .1 .0) (sums .only .same) (sums .to)
             (down-is (iteration .before)) (c .add-cells .ensures),
         sums .to,
       ),

@@ -35,4 +35,5 @@ returns-2 c =
 pub total-spec : {M : Type 1} → statement M
 total-spec =
     tie.close
-    (tie.spec (λ c κs. search needs) (λ c. search needs) (λ c. search needs) returns total-all-requires (λ c. search needs) returns-2)
+    (tie.spec (λ c κs. search needs) (λ c. search needs) (λ c. search needs) returns total-all-requires
+    (λ c. search needs) returns-2)

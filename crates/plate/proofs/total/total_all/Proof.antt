@@ -19,7 +19,8 @@ start c = c .before .before .before
 light-from : (c : tie.After-frame-of) → 0 ≡ 0 * padded (start c .args .state .size)
 light-from c = omega arith
 
-matte-from : (c : tie.After-frame-of) → planesEach * c .frame-of .result .padded ≡ planesEach * padded (start c .args .state .size)
+matte-from : (c : tie.After-frame-of)
+    → planesEach * c .frame-of .result .padded ≡ planesEach * padded (start c .args .state .size)
 matte-from c = ap (λ (f : Frame). planesEach * f .padded) (c .frame-of .ensures)
 
 frame-of-requires : tie.Need-frame-of-requires

@@ -32,7 +32,8 @@ cast-shape-of c = fits-mask (c .before .args .word / 1048576) 4 tt
 
 returns-2 : tie.Need-returns-2
 returns-2 c =
-    sym (low-word _ _ Unknown (omega arith) (sym (shape-read _ _ (c .before .before .shape-of .ensures)) ∙ c .enum-told .given .1))
+    sym
+    (low-word _ _ Unknown (omega arith) (sym (shape-read _ _ (c .before .before .shape-of .ensures)) ∙ c .enum-told .given .1))
 
 cast-radius : tie.Need-cast-radius
 cast-radius c = fits-mask (start (c .before) .args .word / 16777216) 8 tt
