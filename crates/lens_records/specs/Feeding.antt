@@ -1,4 +1,5 @@
--- What the program's own contracts say: which bytes of what it read have been fed. What becomes of their text, no contract can say.
+-- What the program's own contracts say: which bytes of what it read have been fed. What becomes of their text, no contract can
+-- say.
 use mathlib.Core.Path.{_≡_}
 use mathlib.Core.List.{List, []}
 use Prim.Native.Nat.{ℕ}

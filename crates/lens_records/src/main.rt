@@ -24,41 +24,41 @@ ghost use Rattle.records_model.specs.Machine.{atEntry, atExit, buffers, zeroed}
 ghost use Rattle.lens_records.specs.Feeding.{FedTo, FedFront};
 
 // A call of advance, its text written: the machine, how many bytes were taken, and whether the write went well.
-struct Told {
+struct Written {
     machine: Machine,
     consumed: usize,
-    well: bool,
+    ok: bool,
 }
 
 // A run on its way: the machine, whether every read and write has gone well, and whether there is more to read.
 struct Run {
     machine: Machine,
-    well: bool,
+    ok: bool,
     more: bool,
 }
 
 // Says what has failed, where something has; hands on whether all went well.
-fn well_or(well: bool, failed: &[u8]) -> bool {
-    if !well {
+fn ok_or_report(ok: bool, failed: &[u8]) -> bool {
+    if !ok {
         io::write_all(STDERR_FILENO, b"lens_records: ");
         io::write_all(STDERR_FILENO, failed);
     }
-    well
+    ok
 }
 
 // The first bytes of the text are written.
 fn write(text: &[u8], n: usize) -> bool
     requires { ⌜ n ≤ length (now text) ⌝ }
 {
-    let well = io::write_all(STDOUT_FILENO, &text[..n]);
-    well_or(
-        well,
+    let ok = io::write_all(STDOUT_FILENO, &text[..n]);
+    ok_or_report(
+        ok,
         b"cannot write standard output, so the text is cut short\n",
     )
 }
 
 // A call of advance, and its text written.
-fn tell(
+fn advance_and_write(
     machine: Machine,
     part: &[u8],
     planes: &mut Planes,
@@ -68,8 +68,9 @@ fn tell(
     values: &mut Values,
     mattes: &mut Mattes,
     text: &mut Text,
-) -> Told
-    ensures { λ r. ⌜ FedFront machine (atEntry planes pixels log scratch values mattes) (now (part .entry)) (r .consumed) (r .machine) (atExit planes pixels log scratch values mattes) ⌝ }
+) -> Written
+    ensures { λ r. ⌜ FedFront machine (atEntry planes pixels log scratch values mattes) (now (part .entry))
+        (r .consumed) (r .machine) (atExit planes pixels log scratch values mattes) ⌝ }
 {
     let next = advance(
         machine,
@@ -84,10 +85,10 @@ fn tell(
     );
     let after = next.machine;
     let n = next.written;
-    Told {
+    Written {
         machine: after,
         consumed: next.consumed,
-        well: write(text, n),
+        ok: write(text, n),
     }
 }
 
@@ -102,21 +103,22 @@ fn part(
     values: &mut Values,
     mattes: &mut Mattes,
     text: &mut Text,
-) -> Told
-    ensures { λ r. ⌜ (r .well ≡ true → FedTo machine (atEntry planes pixels log scratch values mattes) (now (input .entry)) (r .machine) (atExit planes pixels log scratch values mattes)) ⌝ }
+) -> Written
+    ensures { λ r. ⌜ (r .ok ≡ true → FedTo machine (atEntry planes pixels log scratch values mattes) (now (input .entry))
+        (r .machine) (atExit planes pixels log scratch values mattes)) ⌝ }
 {
-    let mut now = Told {
+    let mut now = Written {
         machine: machine,
         consumed: 0,
-        well: true,
+        ok: true,
     };
     let mut at = 0;
     while at < input.len() {
-        if !now.well {
+        if !now.ok {
             return now;
         }
         let before = now.machine;
-        now = tell(
+        now = advance_and_write(
             before,
             &input[at..],
             planes,
@@ -133,8 +135,8 @@ fn part(
 }
 
 // Whether there is more to read for: the run has not stopped and its text was written.
-fn going(machine: Machine, well: bool) -> bool {
-    if !well {
+fn goes_on(machine: Machine, ok: bool) -> bool {
+    if !ok {
         return false;
     }
     !records::machine::ended(machine)
@@ -142,7 +144,7 @@ fn going(machine: Machine, well: bool) -> bool {
 
 // One read, and the text of what it brought. The run goes on unless the input has ended, it has stopped, or a read or a write has
 // failed.
-fn turn(
+fn read_once(
     machine: Machine,
     planes: &mut Planes,
     pixels: &mut Pixels,
@@ -158,14 +160,14 @@ fn turn(
     if n == 0 {
         return Run {
             machine: machine,
-            well: well_or(
+            ok: ok_or_report(
                 got == 0,
                 b"cannot read standard input, so the run is cut short\n",
             ),
             more: false,
         };
     }
-    let told = part(
+    let written = part(
         machine,
         &input[..n],
         planes,
@@ -176,16 +178,16 @@ fn turn(
         mattes,
         text,
     );
-    let after = told.machine;
+    let after = written.machine;
     Run {
         machine: after,
-        well: told.well,
-        more: going(after, told.well),
+        ok: written.ok,
+        more: goes_on(after, written.ok),
     }
 }
 
 // Reads while the run goes on. It begins as the theorem from bytes to text does, with zeroed buffers of the paper's lengths.
-fn serve(
+fn read_all(
     planes: &mut Planes,
     pixels: &mut Pixels,
     log: &mut Log,
@@ -200,16 +202,16 @@ fn serve(
     let machine = records::machine::start();
     let mut run = Run {
         machine: machine,
-        well: true,
+        ok: true,
         more: true,
     };
-    let mut turns = u64::MAX;
-    while turns > 0 {
+    let mut reads_left = u64::MAX;
+    while reads_left > 0 {
         if !run.more {
             return run;
         }
         let before = run.machine;
-        run = turn(
+        run = read_once(
             before,
             planes,
             pixels,
@@ -220,7 +222,7 @@ fn serve(
             input,
             text,
         );
-        turns -= 1;
+        reads_left -= 1;
     }
     run
 }
@@ -240,7 +242,7 @@ fn main() {
     let mut mattes = [0u8; CELLS];
     let mut input = io::large_buffer();
     let mut text = io::large_buffer();
-    let run = serve(
+    let run = read_all(
         &mut planes,
         &mut pixels,
         &mut log,
@@ -250,7 +252,7 @@ fn main() {
         &mut input,
         &mut text,
     );
-    if run.well {
+    if run.ok {
         let machine = run.machine;
         end(machine, &mut text);
     }

@@ -3,9 +3,10 @@ use mathlib.Core.Path.{_≡_}
 use mathlib.Core.List.{List}
 use Prim.Native.Nat.{ℕ, _+_, _*_, _≤_}
 use lib.ListN.{length}
-use Rattle.plate_model.specs.declared.size.Size.{Size}
+use Rattle.plate_model.specs.Layout.{padded}
 use Rattle.records_model.specs.Fixed.{cellsTop, planesRoom, scratchRoom, textRoom}
-use Rattle.records_model.specs.Machine.{planesOf, placesOf}
+use Rattle.records_model.specs.declared.effect.Reply.{Reply}
+use Rattle.records_model.specs.declared.effect.Reply.the-variants.{Nothing, StoppedBy, RefusedBy, Pictures}
 
 -- the bytes of a line but for its first word: two numbers of at most 20 digits, and what stands between and after them
 abbrev pub lineRoom : ℕ
@@ -29,35 +30,30 @@ pub record CellsRoom (n i m : ℕ) (out values mattes : List ℕ) : Type 0 where
   pub values-room : i + m ≤ length values
   pub mattes-room : i + m ≤ length mattes
 
--- and for a show of h rows of w cells, with its head
-abbrev pub ShowRoom : ℕ → ℕ → List ℕ → List ℕ → List ℕ → Type 0
-ShowRoom w h out values mattes = CellsRoom (lineRoom + rowsRoom w h) 0 (h * w) out values mattes
+-- and for a show of h rows of w cells from a place on, with its head
+abbrev pub ShowRoom : ℕ → ℕ → ℕ → List ℕ → List ℕ → List ℕ → Type 0
+ShowRoom at w h out values mattes = CellsRoom (at + lineRoom + rowsRoom w h) 0 (h * w) out values mattes
+
+-- a show of few enough cells for its text to fit
+abbrev pub FewCells : Reply → Type 0
+FewCells Nothing = Unit {0}
+FewCells (StoppedBy s) = Unit {0}
+FewCells (RefusedBy n) = Unit {0}
+FewCells (Pictures z) = padded z ≤ cellsTop
+
+-- room for a reply's text from a place on
+pub record ReplyRoom (at : ℕ) (r : Reply) (out : List ℕ) : Type 0 where
+  pub out-room : at + textRoom ≤ length out
+  pub few-cells : FewCells r
 
 -- the buffers of a request
 pub record PlateRoom (planes pixels : List ℕ) : Type 0 where
   pub planes-are : length planes ≡ planesRoom
   pub pixels-are : length pixels ≡ cellsTop
 
--- those of a show, and room for its text
-pub record PictureRoom (planes scratch values mattes out : List ℕ) : Type 0 where
+-- and those of a show
+pub record PictureRoom (planes scratch values mattes : List ℕ) : Type 0 where
   pub planes-are : length planes ≡ planesRoom
   pub scratch-is : length scratch ≡ scratchRoom
   pub values-are : length values ≡ cellsTop
   pub mattes-are : length mattes ≡ cellsTop
-  pub out-room : textRoom ≤ length out
-
--- the parts of them that a plate is shown by
-pub record PartRoom (z : Size) (planes values mattes out : List ℕ) : Type 0 where
-  pub planes-are : length planes ≡ planesOf z
-  pub values-are : length values ≡ placesOf z
-  pub mattes-are : length mattes ≡ placesOf z
-  pub out-room : textRoom ≤ length out
-
--- all buffers but the log, which may have any length
-pub record AllRoom (planes pixels scratch values mattes out : List ℕ) : Type 0 where
-  pub planes-are : length planes ≡ planesRoom
-  pub pixels-are : length pixels ≡ cellsTop
-  pub scratch-is : length scratch ≡ scratchRoom
-  pub values-are : length values ≡ cellsTop
-  pub mattes-are : length mattes ≡ cellsTop
-  pub out-room : textRoom ≤ length out

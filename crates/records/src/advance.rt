@@ -1,6 +1,8 @@
 // A part of the input: as much of it is taken as there is room for the text of.
-use crate::machine::Fed;
-use crate::machine::feed;
+use crate::machine::moved;
+use crate::machine::take;
+use crate::perform::perform;
+use crate::text;
 use records_model::advance::Advanced;
 use records_model::fixed::FULL;
 use records_model::fixed::Log;
@@ -12,15 +14,12 @@ use records_model::fixed::Text;
 use records_model::fixed::Values;
 use records_model::machine::Machine;
 ghost use mathlib.Core.Path.{_≡_};
-ghost use Prim.Native.Nat.{_+_, _≤_};
-ghost use lib.ListN.{length};
-ghost use Rattle.records_model.specs.Fixed.{textRoom};
 ghost use Rattle.records_model.specs.Machine.{atEntry, atExit, feedOf, advanceLeft, advanceCall};
-ghost use Rattle.records.specs.Handed.{handed, handAfter};
+ghost use Rattle.records.specs.Fed.{OneMore, fedAfter};
 
 // One byte more, its text after what stands there already.
-fn step(
-    before: Fed,
+fn feed(
+    before: Advanced,
     byte: u8,
     planes: &mut Planes,
     pixels: &mut Pixels,
@@ -29,40 +28,23 @@ fn step(
     values: &mut Values,
     mattes: &mut Mattes,
     out: &mut [u8],
-) -> Fed
-    requires { ⌜ before .written + textRoom ≤ length (now out) ⌝ }
-    ensures { λ r. ⌜ handed (r .machine) (r .written) (atExit planes pixels log scratch values mattes) (now (out .exit)) ≡ handAfter (before .written) (feedOf (before .machine) byte (atEntry planes pixels log scratch values mattes)) (now (out .entry)) ⌝ }
+) -> Advanced
+    requires { ⌜ OneMore before (now out) ⌝ }
+    ensures { λ r. ⌜ advanceLeft r (atExit planes pixels log scratch values mattes) (now (out .exit))
+        ≡ fedAfter before (feedOf (before .machine) byte (atEntry planes pixels log scratch values mattes)) (now (out .entry)) ⌝ }
 {
     let machine = before.machine;
-    let used = before.written;
-    let fed = feed(
-        machine,
-        byte,
-        planes,
-        pixels,
-        log,
-        scratch,
-        values,
-        mattes,
-        &mut out[used..],
-    );
-    let next = fed.machine;
-    let written = used + fed.written;
-    Fed {
-        machine: next,
-        written: written,
-    }
-}
-
-// What so many bytes of a part leave.
-fn left(fed: Fed, consumed: usize) -> Advanced
-    ensures { λ r. ⌜ r ≡ record { machine = fed .machine; consumed = consumed; written = fed .written } ⌝ }
-{
-    let machine = fed.machine;
+    let taken = take(machine, byte);
+    let next = taken.machine;
+    let task = taken.task;
+    let effect = perform(task, planes, pixels, log, scratch, values, mattes);
+    let stage = effect.stage;
+    let reply = effect.reply;
+    let written = text::reply(out, before.written, reply, next.count, values, mattes);
     Advanced {
-        machine: machine,
-        consumed: consumed,
-        written: fed.written,
+        machine: moved(next, stage),
+        consumed: before.consumed + 1,
+        written: written,
     }
 }
 
@@ -79,19 +61,21 @@ pub fn advance(
     mattes: &mut Mattes,
     out: &mut Text,
 ) -> Advanced
-    ensures { λ r. ⌜ advanceLeft r (atExit planes pixels log scratch values mattes) (now (out .exit)) ≡ advanceCall m (now (input .entry)) (atEntry planes pixels log scratch values mattes) (now (out .entry)) ⌝ }
+    ensures { λ r. ⌜ advanceLeft r (atExit planes pixels log scratch values mattes) (now (out .exit))
+        ≡ advanceCall m (now (input .entry)) (atEntry planes pixels log scratch values mattes) (now (out .entry)) ⌝ }
 {
-    let mut fed = Fed {
+    let mut so_far = Advanced {
         machine: m,
+        consumed: 0,
         written: 0,
     };
-    for at in 0..input.len() {
-        if FULL < fed.written {
-            return left(fed, at);
+    for i in 0..input.len() {
+        if FULL < so_far.written {
+            return so_far;
         }
-        fed = step(
-            fed,
-            input[at],
+        so_far = feed(
+            so_far,
+            input[i],
             planes,
             pixels,
             log,
@@ -101,5 +85,5 @@ pub fn advance(
             out,
         );
     }
-    left(fed, input.len())
+    so_far
 }

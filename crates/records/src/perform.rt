@@ -1,38 +1,29 @@
-// What a record does: a call of the plate on the front of the lent buffers, and the text of its answer.
-use crate::record::stop_number;
-use crate::request::room;
-use crate::request::serve;
+// What a record asks for where a run stands, and its effect on the lent buffers.
+use crate::request::call_on_front;
+use crate::request::put_request;
 use crate::request::shapeless_request;
-use crate::request::stroke_request;
-use crate::text;
+use crate::request::show_on_front;
 use plate::Answer;
 use plate::Outcome;
-use plate::Size;
 use plate::State;
-use plate_model::fixed::PLANES;
-use plate_model::fixed::SCRATCH_PLANES;
-use records_model::perform::Stage;
+use records_model::effect::Effect;
+use records_model::effect::Reply;
+use records_model::effect::Stage;
+use records_model::fixed::Log;
+use records_model::fixed::Mattes;
+use records_model::fixed::Pixels;
+use records_model::fixed::Planes;
+use records_model::fixed::Scratch;
+use records_model::fixed::Values;
 use records_model::record::Record;
 use records_model::record::Stop;
 use records_model::request::Request;
+use records_model::request::Task;
 ghost use mathlib.Core.Path.{_≡_};
-ghost use Prim.Native.Nat.{_*_, _≤_};
-ghost use lib.ListN.{length};
 ghost use Rattle.plate_model.specs.Refusal.{outcomeNumber};
-ghost use Rattle.plate_model.specs.Calls.{showCall};
-ghost use Rattle.plate_model.specs.Lent.{lentAtEntry, lentAtExit, viewsAtEntry, viewsAtExit};
-ghost use Rattle.records_model.specs.Fixed.{textRoom};
-ghost use Rattle.records_model.specs.declared.perform.Stage.the-variants.{Closed, Opened};
-ghost use Rattle.records_model.specs.declared.request.Request.the-variants.{ToOpen};
-ghost use Rattle.records_model.specs.Machine.{atEntry, atExit, stoppedBy, openedBy, answeredBy, shownBy, showOn, recordOn};
-ghost use Rattle.records.specs.Room.{ShowRoom, PlateRoom, PictureRoom, PartRoom, AllRoom};
-ghost use Rattle.records.specs.Done.{doneWith, doneOf, Says, Served, ShowDone, PlateDone, ViewsDone};
-
-// What a record leaves: where the run stands then, and how many bytes of text it wrote.
-pub(crate) struct Done {
-    pub stage: Stage,
-    pub written: usize,
-}
+ghost use Rattle.records_model.specs.declared.effect.Stage.the-variants.{Closed, Opened};
+ghost use Rattle.records_model.specs.Machine.{atEntry, atExit, stopping, goingOn, opening, answered, taskOf};
+ghost use Rattle.records.specs.Fed.{Performs};
 
 // The paper's number of an outcome, as wide as a line takes it.
 fn outcome_number(outcome: Outcome) -> u64
@@ -41,251 +32,129 @@ fn outcome_number(outcome: Outcome) -> u64
     plate::state::number(outcome) as u64
 }
 
-// A run stops: its line, and the end.
-pub(crate) fn stop(why: Stop, k: u64, out: &mut [u8]) -> Done
-    requires { ⌜ textRoom ≤ length (now out) ⌝ }
-    ensures { λ r. ⌜ Says (stoppedBy k why) r (now (out .entry)) (now (out .exit)) ⌝ }
+// A run that stops.
+fn stopping(why: Stop) -> Effect
+    ensures { λ r. ⌜ r ≡ stopping why ⌝ }
 {
-    let written = text::line(out, b"stopped", stop_number(why), k);
-    Done {
+    Effect {
         stage: Stage::Ended,
-        written: written,
+        reply: Reply::StoppedBy(why),
     }
 }
 
-// The run goes on, whether its call was accepted, without a word, or refused, with the line of its number.
-fn answered(a: Answer, k: u64, out: &mut [u8]) -> Done
-    requires { ⌜ textRoom ≤ length (now out) ⌝ }
-    ensures { λ r. ⌜ Says (answeredBy k a) r (now (out .entry)) (now (out .exit)) ⌝ }
+// A run that goes on: with this reply where its call is accepted.
+fn going_on(accepted: Reply, a: Answer) -> Effect
+    ensures { λ r. ⌜ r ≡ goingOn accepted a ⌝ }
 {
     let outcome = a.outcome;
+    let state = a.state;
     let number = outcome_number(outcome);
     if number == 0 {
-        let state = a.state;
-        return Done {
+        return Effect {
             stage: Stage::Opened(state),
-            written: 0,
+            reply: accepted,
         };
     }
-    let kept = a.state;
-    let written = text::line(out, b"refused", number, k);
-    Done {
-        stage: Stage::Opened(kept),
-        written: written,
+    Effect {
+        stage: Stage::Opened(state),
+        reply: Reply::RefusedBy(number),
     }
 }
 
-// A put or an undo of record K.
-fn change_on(
-    request: Request,
-    k: u64,
-    planes: &mut [u64],
-    pixels: &mut [u64],
-    log: &mut [u64],
-    out: &mut [u8],
-) -> Done
-    requires { ⌜ PlateRoom (now planes) (now pixels) ⌝ }
-    requires { ⌜ textRoom ≤ length (now out) ⌝ }
-    ensures { λ r. ⌜ Served (answeredBy k) request (lentAtEntry planes pixels log) (lentAtExit planes pixels log) r (now (out .entry)) (now (out .exit)) ⌝ }
-{
-    let a = serve(request, planes, pixels, log);
-    answered(a, k, out)
-}
-
-// The answer to an open: the plate refuses wrong sizes by 1, and one that it is lent no cells for by their lengths, which is 16.
-fn opened(a: Answer, k: u64, out: &mut [u8]) -> Done
-    requires { ⌜ textRoom ≤ length (now out) ⌝ }
-    ensures { λ r. ⌜ Says (openedBy k a) r (now (out .entry)) (now (out .exit)) ⌝ }
+// An open: the plate refuses wrong sizes by 1, and one that it is lent no cells for by their lengths, which is 16.
+fn opening(a: Answer) -> Effect
+    ensures { λ r. ⌜ r ≡ opening a ⌝ }
 {
     let outcome = a.outcome;
+    let state = a.state;
     let number = outcome_number(outcome);
     if number == 0 {
-        let state = a.state;
-        return Done {
+        return Effect {
             stage: Stage::Opened(state),
-            written: 0,
+            reply: Reply::Nothing,
         };
     }
     if number == 1 {
-        return stop(Stop::Sizes, k, out);
+        return stopping(Stop::Sizes);
     }
-    stop(Stop::Cells, k, out)
+    stopping(Stop::Cells)
 }
 
-// An open of record K.
-fn open_on(
-    size: Size,
-    k: u64,
-    planes: &mut [u64],
-    pixels: &mut [u64],
-    log: &mut [u64],
-    out: &mut [u8],
-) -> Done
-    requires { ⌜ PlateRoom (now planes) (now pixels) ⌝ }
-    requires { ⌜ textRoom ≤ length (now out) ⌝ }
-    ensures { λ r. ⌜ Served (openedBy k) (ToOpen size) (lentAtEntry planes pixels log) (lentAtExit planes pixels log) r (now (out .entry)) (now (out .exit)) ⌝ }
+// What comes of the answer to a request.
+fn answered(request: Request, a: Answer) -> Effect
+    ensures { λ r. ⌜ r ≡ answered request a ⌝ }
 {
-    let a = serve(Request::ToOpen(size), planes, pixels, log);
-    opened(a, k, out)
-}
-
-// The answer to a show, with the pictures that it left.
-fn shown(a: Answer, size: Size, k: u64, values: &[u16], mattes: &[u8], out: &mut [u8]) -> Done
-    requires { ⌜ textRoom ≤ length (now out) ⌝ }
-    requires { ⌜ (outcomeNumber (a .outcome) ≡ 0 → ShowRoom (size .width) (size .height) (now out) (now values) (now mattes)) ⌝ }
-    ensures { λ r. ⌜ Says (shownBy k size a (now (values .entry)) (now (mattes .entry))) r (now (out .entry)) (now (out .exit)) ⌝ }
-{
-    let outcome = a.outcome;
-    if outcome_number(outcome) == 0 {
-        let state = a.state;
-        let written = text::show(out, values, mattes, size.width, size.height);
-        return Done {
-            stage: Stage::Opened(state),
-            written: written,
-        };
+    match request {
+        Request::ToOpen(_) => opening(a),
+        Request::ToPut(_) => going_on(Reply::Nothing, a),
+        Request::ToUndo(_) => going_on(Reply::Nothing, a),
     }
-    answered(a, k, out)
 }
 
-// A show on just the parts that a plate wants.
-fn show_parts(
-    state: State,
-    k: u64,
-    planes: &[u64],
-    scratch: &mut [u64],
-    values: &mut [u16],
-    mattes: &mut [u8],
-    out: &mut [u8],
-) -> Done
-    requires { ⌜ PartRoom (state .size) (now planes) (now values) (now mattes) (now out) ⌝ }
-    ensures { λ r. ⌜ ShowDone k state (showCall state (now (planes .entry)) (viewsAtEntry scratch values mattes)) r (viewsAtExit scratch values mattes) (now (out .entry)) (now (out .exit)) ⌝ }
-{
-    let a = plate::show::show(state, planes, scratch, values, mattes);
-    shown(a, state.size, k, values, mattes, out)
-}
-
-// A show of record K.
-fn show_on(
-    state: State,
-    k: u64,
-    planes: &[u64],
-    scratch: &mut [u64],
-    values: &mut [u16],
-    mattes: &mut [u8],
-    out: &mut [u8],
-) -> Done
-    requires { ⌜ PictureRoom (now planes) (now scratch) (now values) (now mattes) (now out) ⌝ }
-    ensures { λ r. ⌜ ViewsDone (showOn k state) (now (planes .entry)) (viewsAtEntry scratch values mattes) (viewsAtExit scratch values mattes) r (now (out .entry)) (now (out .exit)) ⌝ }
-{
-    let lends = room(state.size);
-    let cells = PLANES * lends.cells;
-    let sums = SCRATCH_PLANES * lends.cells;
-    let places = lends.places;
-    show_parts(
-        state,
-        k,
-        &planes[..cells],
-        &mut scratch[..sums],
-        &mut values[..places],
-        &mut mattes[..places],
-        out,
-    )
-}
-
-// Record K before any plate is open.
-fn on_closed(
-    item: Record,
-    k: u64,
-    planes: &mut [u64],
-    pixels: &mut [u64],
-    log: &mut [u64],
-    out: &mut [u8],
-) -> Done
-    requires { ⌜ PlateRoom (now planes) (now pixels) ⌝ }
-    requires { ⌜ textRoom ≤ length (now out) ⌝ }
-    ensures { λ r. ⌜ PlateDone (recordOn k Closed item) (lentAtEntry planes pixels log) (lentAtExit planes pixels log) r (now (out .entry)) (now (out .exit)) ⌝ }
+// What a record asks for before any plate is open.
+fn closed_task(item: Record) -> Task
+    ensures { λ r. ⌜ r ≡ taskOf Closed item ⌝ }
 {
     match item {
-        Record::Open(size) => open_on(size, k, planes, pixels, log, out),
-        Record::Put(_) => stop(Stop::Order, k, out),
-        Record::NoShape(_) => stop(Stop::Order, k, out),
-        Record::Undo => stop(Stop::Order, k, out),
-        Record::Show => stop(Stop::Order, k, out),
+        Record::Open(size) => Task::ToCall(Request::ToOpen(size)),
+        Record::Put(_) => Task::ToStop(Stop::Order),
+        Record::NoShape(_) => Task::ToStop(Stop::Order),
+        Record::Undo => Task::ToStop(Stop::Order),
+        Record::Show => Task::ToStop(Stop::Order),
     }
 }
 
-// Record K on an open plate.
-fn on_open(
-    state: State,
-    item: Record,
-    k: u64,
-    planes: &mut [u64],
-    pixels: &mut [u64],
-    log: &mut [u64],
-    scratch: &mut [u64],
-    values: &mut [u16],
-    mattes: &mut [u8],
-    out: &mut [u8],
-) -> Done
-    requires { ⌜ AllRoom (now planes) (now pixels) (now scratch) (now values) (now mattes) (now out) ⌝ }
-    ensures { λ r. ⌜ doneWith r (atExit planes pixels log scratch values mattes) (now (out .exit)) ≡ doneOf (recordOn k (Opened state) item (atEntry planes pixels log scratch values mattes)) (now (out .entry)) ⌝ }
+// And on an open plate.
+fn opened_task(state: State, item: Record) -> Task
+    ensures { λ r. ⌜ r ≡ taskOf (Opened state) item ⌝ }
 {
     match item {
-        Record::Open(_) => stop(Stop::Order, k, out),
-        Record::Put(stroke) => change_on(
-            stroke_request(state, stroke),
-            k,
-            planes,
-            pixels,
-            log,
-            out,
-        ),
-        Record::NoShape(put) => change_on(
-            shapeless_request(state, put),
-            k,
-            planes,
-            pixels,
-            log,
-            out,
-        ),
-        Record::Undo => change_on(Request::ToUndo(state), k, planes, pixels, log, out),
-        Record::Show => show_on(state, k, planes, scratch, values, mattes, out),
+        Record::Open(_) => Task::ToStop(Stop::Order),
+        Record::Put(put) => Task::ToCall(put_request(state, put)),
+        Record::NoShape(put) => Task::ToCall(shapeless_request(state, put)),
+        Record::Undo => Task::ToCall(Request::ToUndo(state)),
+        Record::Show => Task::ToShow(state),
     }
 }
 
-// Record K, wherever the run stands.
-pub(crate) fn perform(
-    stage: Stage,
-    item: Record,
-    k: u64,
-    planes: &mut [u64],
-    pixels: &mut [u64],
-    log: &mut [u64],
-    scratch: &mut [u64],
-    values: &mut [u16],
-    mattes: &mut [u8],
-    out: &mut [u8],
-) -> Done
-    requires { ⌜ AllRoom (now planes) (now pixels) (now scratch) (now values) (now mattes) (now out) ⌝ }
-    ensures { λ r. ⌜ doneWith r (atExit planes pixels log scratch values mattes) (now (out .exit)) ≡ doneOf (recordOn k stage item (atEntry planes pixels log scratch values mattes)) (now (out .entry)) ⌝ }
+// Wherever the run stands.
+pub(crate) fn task(stage: Stage, item: Record) -> Task
+    ensures { λ r. ⌜ r ≡ taskOf stage item ⌝ }
 {
     match stage {
-        Stage::Closed => on_closed(item, k, planes, pixels, log, out),
-        Stage::Opened(state) => on_open(
-            state,
-            item,
-            k,
-            planes,
-            pixels,
-            log,
-            scratch,
-            values,
-            mattes,
-            out,
-        ),
-        Stage::Ended => Done {
-            stage: Stage::Ended,
-            written: 0,
+        Stage::Closed => closed_task(item),
+        Stage::Opened(state) => opened_task(state, item),
+        Stage::Ended => Task::ToStand(Stage::Ended),
+    }
+}
+
+// The task done.
+pub(crate) fn perform(
+    task: Task,
+    planes: &mut Planes,
+    pixels: &mut Pixels,
+    log: &mut Log,
+    scratch: &mut Scratch,
+    values: &mut Values,
+    mattes: &mut Mattes,
+) -> Effect
+    ensures { λ r. ⌜ Performs task (atEntry planes pixels log scratch values mattes) r
+        (atExit planes pixels log scratch values mattes) ⌝ }
+{
+    match task {
+        Task::ToStand(stage) => Effect {
+            stage: stage,
+            reply: Reply::Nothing,
         },
+        Task::ToStop(why) => stopping(why),
+        Task::ToCall(request) => {
+            let a = call_on_front(request, planes, pixels, log);
+            answered(request, a)
+        }
+        Task::ToShow(state) => {
+            let size = state.size;
+            let a = show_on_front(state, planes, scratch, values, mattes);
+            going_on(Reply::Pictures(size), a)
+        }
     }
 }

@@ -6,10 +6,10 @@ use records_model::fixed::Body;
 use records_model::fixed::OPEN_BODY;
 use records_model::fixed::PUT_BODY;
 use records_model::record::BodyLength;
+use records_model::record::PlacedPixel;
 use records_model::record::Record;
 use records_model::record::Shapeless;
 use records_model::record::Stop;
-use records_model::record::Stroke;
 ghost use mathlib.Core.Path.{_≡_};
 ghost use Prim.Native.Nat.{_+_, _*_, _<_};
 ghost use lib.ListN.{getD};
@@ -64,7 +64,7 @@ fn size(low: u8, high: u8) -> usize
 }
 
 // A put, from its body: without a shape where its byte names none.
-fn read_put(body: Body) -> Record
+fn put_record(body: Body) -> Record
     ensures { λ r. ⌜ r ≡ putRecord (shapeOf (getD body 7 0)) body ⌝ }
 {
     let x = size(body[0], body[1]);
@@ -77,7 +77,7 @@ fn read_put(body: Body) -> Record
             value: value,
         });
     };
-    Record::Put(Stroke {
+    Record::Put(PlacedPixel {
         x: x,
         y: y,
         pixel: Pixel {
@@ -101,7 +101,7 @@ pub(crate) fn read(kind: u8, body: Body) -> Record
         });
     }
     if kind == 2 {
-        return read_put(body);
+        return put_record(body);
     }
     if kind == 3 {
         return Record::Undo;

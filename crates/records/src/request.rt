@@ -4,30 +4,32 @@ use plate::Size;
 use plate::State;
 use plate_model::fixed::BORDER;
 use plate_model::fixed::PLANES;
+use plate_model::fixed::SCRATCH_PLANES;
 use plate_model::lent::Ask;
 use records_model::fixed::CELLS;
 use records_model::fixed::NO_SHAPE;
+use records_model::record::PlacedPixel;
 use records_model::record::Shapeless;
-use records_model::record::Stroke;
+use records_model::request::PutRequest;
 use records_model::request::Request;
-use records_model::request::Strike;
 ghost use mathlib.Core.Path.{_≡_};
-ghost use Rattle.plate_model.specs.Calls.{leaves};
-ghost use Rattle.plate_model.specs.Lent.{lentAtEntry, lentAtExit};
-ghost use Rattle.records_model.specs.Record.{strokeAsk, shapelessAsk};
-ghost use Rattle.records_model.specs.Machine.{cellsOf, placesOf, putRequest, requestSize, requestCall, requested};
-ghost use Rattle.records.specs.Room.{PlateRoom};
+ghost use Rattle.plate_model.specs.Calls.{leaves, shows};
+ghost use Rattle.plate_model.specs.Lent.{lentAtEntry, lentAtExit, viewsAtEntry, viewsAtExit};
+ghost use Rattle.records_model.specs.Record.{putAsk, shapelessAsk};
+ghost use Rattle.records_model.specs.Machine.{lentCells, lentPlaces, putRequest, requestSize, requestCall, requested};
+ghost use Rattle.records_model.specs.Machine.{showRequested};
+ghost use Rattle.records.specs.Room.{PlateRoom, PictureRoom};
 
 // The cells of a padded plane and the places of a plate; none where the cells are more than there is room for.
-pub(crate) struct Lends {
+pub(crate) struct LentCounts {
     pub cells: usize,
     pub places: usize,
 }
 
-pub(crate) fn room(size: Size) -> Lends
-    ensures { λ r. ⌜ (r .cells ≡ cellsOf size) × (r .places ≡ placesOf size) ⌝ }
+pub(crate) fn room(size: Size) -> LentCounts
+    ensures { λ r. ⌜ (r .cells ≡ lentCells size) × (r .places ≡ lentPlaces size) ⌝ }
 {
-    let none = Lends {
+    let none = LentCounts {
         cells: 0,
         places: 0,
     };
@@ -44,24 +46,24 @@ pub(crate) fn room(size: Size) -> Lends
     if CELLS < cells {
         return none;
     }
-    Lends {
+    LentCounts {
         cells: cells,
         places: size.width * size.height,
     }
 }
 
 // A put of a record that names a shape.
-pub(crate) fn stroke_request(state: State, stroke: Stroke) -> Request
-    ensures { λ r. ⌜ r ≡ putRequest state (strokeAsk stroke) ⌝ }
+pub(crate) fn put_request(state: State, put: PlacedPixel) -> Request
+    ensures { λ r. ⌜ r ≡ putRequest state (putAsk put) ⌝ }
 {
-    let pixel = stroke.pixel;
+    let pixel = put.pixel;
     let shape = pixel.shape;
     let number = kernels::shape::number(shape);
-    Request::ToPut(Strike {
+    Request::ToPut(PutRequest {
         state: state,
         ask: Ask {
-            x: stroke.x,
-            y: stroke.y,
+            x: put.x,
+            y: put.y,
             value: pixel.value,
             opacity: pixel.opacity,
             shape: number,
@@ -74,7 +76,7 @@ pub(crate) fn stroke_request(state: State, stroke: Stroke) -> Request
 pub(crate) fn shapeless_request(state: State, put: Shapeless) -> Request
     ensures { λ r. ⌜ r ≡ putRequest state (shapelessAsk put) ⌝ }
 {
-    Request::ToPut(Strike {
+    Request::ToPut(PutRequest {
         state: state,
         ask: Ask {
             x: put.x,
@@ -93,7 +95,7 @@ fn size_of(request: Request) -> Size
 {
     match request {
         Request::ToOpen(size) => size,
-        Request::ToPut(strike) => strike.state.size,
+        Request::ToPut(put) => put.state.size,
         Request::ToUndo(state) => state.size,
     }
 }
@@ -111,9 +113,9 @@ fn call(request: Request, planes: &mut [u64], pixels: &mut [u64], log: &mut [u64
             pixels,
             log,
         ),
-        Request::ToPut(strike) => {
-            let ask = strike.ask;
-            let state = strike.state;
+        Request::ToPut(put) => {
+            let ask = put.ask;
+            let state = put.state;
             plate::put::put(
                 state,
                 ask.x,
@@ -132,7 +134,7 @@ fn call(request: Request, planes: &mut [u64], pixels: &mut [u64], log: &mut [u64
 }
 
 // The same on the front of the buffers.
-pub(crate) fn serve(
+pub(crate) fn call_on_front(
     request: Request,
     planes: &mut [u64],
     pixels: &mut [u64],
@@ -141,8 +143,33 @@ pub(crate) fn serve(
     requires { ⌜ PlateRoom (now planes) (now pixels) ⌝ }
     ensures { λ r. ⌜ leaves r (lentAtExit planes pixels log) ≡ requested request (lentAtEntry planes pixels log) ⌝ }
 {
-    let lends = room(size_of(request));
-    let cells = PLANES * lends.cells;
-    let places = lends.places;
+    let lent = room(size_of(request));
+    let cells = PLANES * lent.cells;
+    let places = lent.places;
     call(request, &mut planes[..cells], &mut pixels[..places], log)
+}
+
+// And a show.
+pub(crate) fn show_on_front(
+    state: State,
+    planes: &[u64],
+    scratch: &mut [u64],
+    values: &mut [u16],
+    mattes: &mut [u8],
+) -> Answer
+    requires { ⌜ PictureRoom (now planes) (now scratch) (now values) (now mattes) ⌝ }
+    ensures { λ r. ⌜ shows r (viewsAtExit scratch values mattes)
+        ≡ showRequested state (now (planes .entry)) (viewsAtEntry scratch values mattes) ⌝ }
+{
+    let lent = room(state.size);
+    let cells = PLANES * lent.cells;
+    let sums = SCRATCH_PLANES * lent.cells;
+    let places = lent.places;
+    plate::show::show(
+        state,
+        &planes[..cells],
+        &mut scratch[..sums],
+        &mut values[..places],
+        &mut mattes[..places],
+    )
 }

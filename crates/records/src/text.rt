@@ -1,11 +1,19 @@
 // The text that a run prints, written into a lent slice from a place on. Each function answers the next place.
+use crate::record::stop_number;
+use records_model::effect::Reply;
+use records_model::fixed::Mattes;
+use records_model::fixed::Values;
+use records_model::record::Stop;
 ghost use mathlib.Core.Path.{_≡_};
 ghost use mathlib.Core.List.{[], _∷_};
 ghost use Prim.Native.Nat.{_+_, _*_, _^_, _<_, _≤_};
 ghost use lib.ListN.{length};
+ghost use Rattle.records_model.specs.Fixed.{textRoom};
 ghost use Rattle.records_model.specs.Text.{decimal, space, numbered, doneLine, headLine, cellText, rowText, rowsText, showText};
+ghost use Rattle.records_model.specs.Run.{stopText};
+ghost use Rattle.records_model.specs.Machine.{replyText};
 ghost use Rattle.records.specs.Written.{Wrote, WroteIn, gapText};
-ghost use Rattle.records.specs.Room.{lineRoom, cellRoom, rowRoom, rowsRoom, CellsRoom, ShowRoom};
+ghost use Rattle.records.specs.Room.{lineRoom, cellRoom, rowRoom, rowsRoom, CellsRoom, ShowRoom, ReplyRoom};
 
 // One byte.
 fn byte(out: &mut [u8], at: usize, b: u8) -> usize
@@ -50,16 +58,24 @@ fn spaced(out: &mut [u8], at: usize, n: u64) -> usize
     number(out, next, n)
 }
 
-// The line of a stop or a refusal, from the start on: a word, a number, and the record that it came at.
-pub(crate) fn line(out: &mut [u8], w: &[u8], n: u64, k: u64) -> usize
-    requires { ⌜ length (now w) + lineRoom ≤ length (now out) ⌝ }
-    ensures { λ r. ⌜ Wrote (now (out .entry)) 0 (numbered (now (w .entry)) n k) (now (out .exit)) r ⌝ }
+// The line of a stop or a refusal: a word, a number, and the record that it came at.
+fn line(out: &mut [u8], at: usize, w: &[u8], n: u64, k: u64) -> usize
+    requires { ⌜ at + length (now w) + lineRoom ≤ length (now out) ⌝ }
+    ensures { λ r. ⌜ Wrote (now (out .entry)) at (numbered (now (w .entry)) n k) (now (out .exit)) r ⌝ }
 {
-    let one = word(out, 0, w);
+    let one = word(out, at, w);
     let two = spaced(out, one, n);
     let three = word(out, two, b" at");
     let four = spaced(out, three, k);
     byte(out, four, b'\n')
+}
+
+// The line of a stop.
+pub(crate) fn stopped(out: &mut [u8], at: usize, why: Stop, k: u64) -> usize
+    requires { ⌜ at + textRoom ≤ length (now out) ⌝ }
+    ensures { λ r. ⌜ Wrote (now (out .entry)) at (stopText k why) (now (out .exit)) r ⌝ }
+{
+    line(out, at, b"stopped", stop_number(why), k)
 }
 
 // The last line of a whole input.
@@ -73,11 +89,11 @@ pub(crate) fn done(out: &mut [u8], k: u64) -> usize
 }
 
 // The first line of a show.
-fn head(out: &mut [u8], w: u64, h: u64) -> usize
-    requires { ⌜ lineRoom ≤ length (now out) ⌝ }
-    ensures { λ r. ⌜ WroteIn lineRoom (now (out .entry)) 0 (headLine w h) (now (out .exit)) r ⌝ }
+fn head(out: &mut [u8], at: usize, w: u64, h: u64) -> usize
+    requires { ⌜ at + lineRoom ≤ length (now out) ⌝ }
+    ensures { λ r. ⌜ WroteIn lineRoom (now (out .entry)) at (headLine w h) (now (out .exit)) r ⌝ }
 {
-    let one = word(out, 0, b"plate");
+    let one = word(out, at, b"plate");
     let two = spaced(out, one, w);
     let three = spaced(out, two, h);
     byte(out, three, b'\n')
@@ -99,7 +115,8 @@ fn wide16(v: u16) -> u64
 // The cell at a place.
 fn cell(out: &mut [u8], at: usize, values: &[u16], mattes: &[u8], i: usize) -> usize
     requires { ⌜ CellsRoom (at + cellRoom) i 1 (now out) (now values) (now mattes) ⌝ }
-    ensures { λ r. ⌜ WroteIn cellRoom (now (out .entry)) at (cellText (now (values .entry)) (now (mattes .entry)) i) (now (out .exit)) r ⌝ }
+    ensures { λ r. ⌜ WroteIn cellRoom (now (out .entry)) at (cellText (now (values .entry)) (now (mattes .entry)) i)
+        (now (out .exit)) r ⌝ }
 {
     let value = wide16(values[i]);
     let matte = wide8(mattes[i]);
@@ -122,7 +139,8 @@ fn gap(out: &mut [u8], at: usize, j: usize) -> usize
 // A row of w cells from a place on.
 fn row(out: &mut [u8], at: usize, values: &[u16], mattes: &[u8], from: usize, w: usize) -> usize
     requires { ⌜ CellsRoom (at + rowRoom w) from w (now out) (now values) (now mattes) ⌝ }
-    ensures { λ r. ⌜ WroteIn (rowRoom w) (now (out .entry)) at (rowText (now (values .entry)) (now (mattes .entry)) from w) (now (out .exit)) r ⌝ }
+    ensures { λ r. ⌜ WroteIn (rowRoom w) (now (out .entry)) at (rowText (now (values .entry)) (now (mattes .entry)) from w)
+        (now (out .exit)) r ⌝ }
 {
     let mut next = at;
     for j in 0..w {
@@ -135,7 +153,8 @@ fn row(out: &mut [u8], at: usize, values: &[u16], mattes: &[u8], from: usize, w:
 // The rows of a show, a line for each.
 fn rows(out: &mut [u8], at: usize, values: &[u16], mattes: &[u8], w: usize, h: usize) -> usize
     requires { ⌜ CellsRoom (at + rowsRoom w h) 0 (h * w) (now out) (now values) (now mattes) ⌝ }
-    ensures { λ r. ⌜ Wrote (now (out .entry)) at (rowsText (now (values .entry)) (now (mattes .entry)) w h) (now (out .exit)) r ⌝ }
+    ensures { λ r. ⌜ Wrote (now (out .entry)) at (rowsText (now (values .entry)) (now (mattes .entry)) w h)
+        (now (out .exit)) r ⌝ }
 {
     let mut next = at;
     let mut from = 0;
@@ -147,11 +166,33 @@ fn rows(out: &mut [u8], at: usize, values: &[u16], mattes: &[u8], w: usize, h: u
     next
 }
 
-// A show, from the start on.
-pub(crate) fn show(out: &mut [u8], values: &[u16], mattes: &[u8], w: usize, h: usize) -> usize
-    requires { ⌜ ShowRoom w h (now out) (now values) (now mattes) ⌝ }
-    ensures { λ r. ⌜ Wrote (now (out .entry)) 0 (showText w h (now (values .entry)) (now (mattes .entry))) (now (out .exit)) r ⌝ }
+// A show.
+fn show(out: &mut [u8], at: usize, values: &[u16], mattes: &[u8], w: usize, h: usize) -> usize
+    requires { ⌜ ShowRoom at w h (now out) (now values) (now mattes) ⌝ }
+    ensures { λ r. ⌜ Wrote (now (out .entry)) at (showText w h (now (values .entry)) (now (mattes .entry)))
+        (now (out .exit)) r ⌝ }
 {
-    let next = head(out, w as u64, h as u64);
+    let next = head(out, at, w as u64, h as u64);
     rows(out, next, values, mattes, w, h)
+}
+
+// A reply to record K.
+pub(crate) fn reply(
+    out: &mut [u8],
+    at: usize,
+    r: Reply,
+    k: u64,
+    values: &Values,
+    mattes: &Mattes,
+) -> usize
+    requires { ⌜ ReplyRoom at r (now out) ⌝ }
+    ensures { λ n. ⌜ Wrote (now (out .entry)) at (replyText k r (now (values .entry)) (now (mattes .entry)))
+        (now (out .exit)) n ⌝ }
+{
+    match r {
+        Reply::Nothing => at,
+        Reply::StoppedBy(why) => stopped(out, at, why, k),
+        Reply::RefusedBy(number) => line(out, at, b"refused", number, k),
+        Reply::Pictures(size) => show(out, at, values, mattes, size.width, size.height),
+    }
 }

@@ -1,2 +1,3 @@
--- What a record looks at in its body.
+-- What a record looks at in its body, and a show's text in the pictures.
 pub mod Bodies
+pub mod Pictures

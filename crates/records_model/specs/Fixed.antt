@@ -36,8 +36,8 @@ noShape = shapeCount
 abbrev pub textRoom : ℕ
 textRoom = 4096
 
--- the bytes that a call is lent for its text, and how many may stand there before the next byte: the text of any record still fits
--- then
+-- the bytes that a call is lent for its text, and how many may stand there before the next byte: the text of any record still
+-- fits then
 abbrev pub bufferRoom : ℕ
 bufferRoom = 65536
 

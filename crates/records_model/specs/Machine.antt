@@ -13,26 +13,28 @@ use Rattle.plate_model.specs.declared.size.Size.{Size}
 use Rattle.plate_model.specs.Layout.{padded, places}
 use Rattle.plate_model.specs.declared.state.State.{State}
 use Rattle.plate_model.specs.declared.state.Answer.{Answer}
-use Rattle.plate_model.specs.declared.state.Outcome.{Outcome}
-use Rattle.plate_model.specs.declared.state.Outcome.the-variants.{Accepted, Refused}
-use Rattle.plate_model.specs.Refusal.{refusalNumber, outcomeNumber}
+use Rattle.plate_model.specs.Refusal.{outcomeNumber}
 use Rattle.plate_model.specs.declared.lent.Ask.{Ask}
 use Rattle.plate_model.specs.Lent.{Lent, lent, Views, views, Borrowed}
 use Rattle.plate_model.specs.Listed.{zeros}
-use Rattle.plate_model.specs.Calls.{Left, openCall, putCall, undoCall, showCall}
+use Rattle.plate_model.specs.Calls.{Left, openCall, putCall, undoCall, Shown, showCall}
 use Rattle.plate_model.specs.Lists.{Byte, codes}
 use Rattle.records_model.specs.Fixed.{cellsTop, planesRoom, scratchRoom, logRoom, longestBody, fullFrom}
-use Rattle.records_model.specs.Text.{doneLine, showText, withText}
-use Rattle.records_model.specs.Record.{Record, Open, Put, NoShape, Undo, Show, Stop, Sizes, Kind, Body, Order, Cells, BodyLength, Bytes, NoKind, bodyLength, recordOf, strokeAsk, shapelessAsk}
-use Rattle.records_model.specs.Run.{answerText, stopText, paperText}
-pub use Rattle.records_model.specs.declared.request.Strike.{Strike}
+use Rattle.records_model.specs.Text.{refusedWord, numbered, doneLine, showText, withText}
+use Rattle.records_model.specs.Record.{Record, Open, Put, NoShape, Undo, Show, recordOf, putAsk, shapelessAsk}
+use Rattle.records_model.specs.Record.{Stop, Sizes, Kind, Body, Order, Cells, BodyLength, Bytes, NoKind, bodyLength}
+use Rattle.records_model.specs.Run.{stopText, paperText}
+pub use Rattle.records_model.specs.declared.request.PutRequest.{PutRequest}
 pub use Rattle.records_model.specs.declared.request.Request.{Request}
 pub use Rattle.records_model.specs.declared.request.Request.the-variants.{ToOpen, ToPut, ToUndo}
-pub use Rattle.records_model.specs.declared.perform.Stage.{Stage}
-pub use Rattle.records_model.specs.declared.perform.Stage.the-variants.{Closed, Opened, Ended}
+pub use Rattle.records_model.specs.declared.request.Task.{Task}
+pub use Rattle.records_model.specs.declared.request.Task.the-variants.{ToStand, ToStop, ToCall, ToShow}
+pub use Rattle.records_model.specs.declared.effect.Stage.{Stage}
+pub use Rattle.records_model.specs.declared.effect.Stage.the-variants.{Closed, Opened, Ended}
+pub use Rattle.records_model.specs.declared.effect.Reply.{Reply}
+pub use Rattle.records_model.specs.declared.effect.Reply.the-variants.{Nothing, StoppedBy, RefusedBy, Pictures}
+pub use Rattle.records_model.specs.declared.effect.Effect.{Effect}
 pub use Rattle.records_model.specs.declared.machine.Machine.{Machine}
-pub use Rattle.records_model.specs.declared.machine.Next.{Next}
-pub use Rattle.records_model.specs.declared.machine.Next.the-variants.{Wait, Lose, Refuse, Do}
 pub use Rattle.records_model.specs.declared.machine.Taken.{Taken}
 pub use Rattle.records_model.specs.declared.advance.Advanced.{Advanced}
 
@@ -64,45 +66,38 @@ atExit planes pixels log scratch values mattes =
 abbrev pub ifRoom : Size → ℕ → ℕ
 ifRoom z n = pick (ltb cellsTop (padded z)) 0 n
 
-abbrev pub cellsOf : Size → ℕ
-cellsOf z = ifRoom z (padded z)
+abbrev pub lentCells : Size → ℕ
+lentCells z = ifRoom z (padded z)
 
-abbrev pub placesOf : Size → ℕ
-placesOf z = ifRoom z (places z)
+abbrev pub lentPlaces : Size → ℕ
+lentPlaces z = ifRoom z (places z)
 
-abbrev pub planesOf : Size → ℕ
-planesOf z = planesInAll * cellsOf z
+abbrev pub planeCells : Size → ℕ
+planeCells z = planesInAll * lentCells z
 
-abbrev pub sumsOf : Size → ℕ
-sumsOf z = scratchPlanes * cellsOf z
+abbrev pub scratchCells : Size → ℕ
+scratchCells z = scratchPlanes * lentCells z
 
 -- the front of a buffer is lent, and comes back
 abbrev pub back : ℕ → List ℕ → List ℕ → List ℕ
 back n front whole = front ++ drop n whole
 
-unfoldable pub frontOf : Size → Lent → Lent
-frontOf z l = lent (take (planesOf z) (l .planes)) (take (placesOf z) (l .pixels)) (l .log)
+unfoldable pub plateFront : Size → Lent → Lent
+plateFront z l = lent (take (planeCells z) (l .planes)) (take (lentPlaces z) (l .pixels)) (l .log)
 
-unfoldable pub frontBack : Size → Lent → Lent → Lent
-frontBack z front l =
-    lent (back (planesOf z) (front .planes) (l .planes)) (back (placesOf z) (front .pixels) (l .pixels)) (front .log)
+unfoldable pub plateBack : Size → Lent → Lent → Lent
+plateBack z front l =
+    lent (back (planeCells z) (front .planes) (l .planes)) (back (lentPlaces z) (front .pixels) (l .pixels)) (front .log)
 
-unfoldable pub viewsOf : Size → Buffers → Views
-viewsOf z b = views (take (sumsOf z) (b .scratch)) (take (placesOf z) (b .values)) (take (placesOf z) (b .mattes))
+unfoldable pub viewsFront : Size → Views → Views
+viewsFront z v =
+    views (take (scratchCells z) (v .scratch)) (take (lentPlaces z) (v .values)) (take (lentPlaces z) (v .mattes))
 
-unfoldable pub viewsBack : Size → Views → Buffers → Buffers
-viewsBack z v b =
-    buffers (b .planes) (b .pixels) (b .log)
-    (back (sumsOf z) (v .scratch) (b .scratch))
-    (back (placesOf z) (v .values) (b .values))
-    (back (placesOf z) (v .mattes) (b .mattes))
-
--- planes, pixels and log of the buffers, and the buffers with others in their place
-abbrev pub plateOf : Buffers → Lent
-plateOf b = lent (b .planes) (b .pixels) (b .log)
-
-abbrev pub holding : Buffers → Lent → Buffers
-holding b l = buffers (l .planes) (l .pixels) (l .log) (b .scratch) (b .values) (b .mattes)
+unfoldable pub viewsBack : Size → Views → Views → Views
+viewsBack z front v =
+    views (back (scratchCells z) (front .scratch) (v .scratch))
+    (back (lentPlaces z) (front .values) (v .values))
+    (back (lentPlaces z) (front .mattes) (v .mattes))
 
 -- REQUESTS
 -- what a record asks of the plate
@@ -122,71 +117,81 @@ requestCall (ToUndo s) l = undoCall s l
 -- the call is lent the front of planes and pixels, and what it leaves there is taken back
 unfoldable pub requested : Request → Lent → Left
 requested q l =
-    let r = requestCall q (frontOf (requestSize q) l) in
-    record { answer = r .answer; buffers = frontBack (requestSize q) (r .buffers) l }
+    let r = requestCall q (plateFront (requestSize q) l) in
+    record { answer = r .answer; kept = plateBack (requestSize q) (r .buffers) l }
+
+-- so is a show, of planes, scratch and pictures
+unfoldable pub showRequested : State → List ℕ → Views → Shown
+showRequested s planes v =
+    let z = s .size in
+    let r = showCall s (take (planeCells z) planes) (viewsFront z v) in
+    record { answer = r .answer; seen = viewsBack z (r .seen) v }
 
 -- RECORDS
--- where a run stands after record K, and the record's text
-pub record Said : Type 0 where
-  pub stage : Stage
-  pub text : List ℕ
+-- where a run stands after a record and what it has to print, and then the buffers
+abbrev pub effect : Stage → Reply → Effect
+effect s r = record { stage = s; reply = r }
 
-abbrev pub said : Stage → List ℕ → Said
-said s t = record { stage = s; text = t }
-
--- and the buffers
 pub record Did : Type 0 where
-  pub stage : Stage
+  pub effect : Effect
   pub buffers : Buffers
-  pub text : List ℕ
 
-abbrev pub did : Said → Buffers → Did
-did w b = record { stage = w .stage; buffers = b; text = w .text }
+abbrev pub did : Effect → Buffers → Did
+did e b = record { effect = e; buffers = b }
 
-abbrev pub stoppedBy : ℕ → Stop → Said
-stoppedBy k s = said Ended (stopText k s)
+-- the text of a reply to record K: a show's pictures stand in the front of values and mattes
+unfoldable pub replyText : ℕ → Reply → List ℕ → List ℕ → List ℕ
+replyText k Nothing values mattes = []
+replyText k (StoppedBy s) values mattes = stopText k s
+replyText k (RefusedBy n) values mattes = numbered refusedWord n k
+replyText k (Pictures z) values mattes = showText (z .width) (z .height) values mattes
+
+-- a run that stops
+abbrev pub stopping : Stop → Effect
+stopping s = effect Ended (StoppedBy s)
+
+-- a run that goes on: with this reply where its call is accepted
+unfoldable pub goingOn : Reply → Answer → Effect
+goingOn accepted a =
+    let n = outcomeNumber (a .outcome) in
+    effect (Opened (a .state)) (pick (eqb n 0) accepted (RefusedBy n))
 
 -- an open: refused by 1 it stops with 1, by another number with 16
-unfoldable pub openedBy : ℕ → Answer → Said
-openedBy k a =
+unfoldable pub opening : Answer → Effect
+opening a =
     let n = outcomeNumber (a .outcome) in
-    pick (eqb n 0) (said (Opened (a .state)) []) (stoppedBy k (pick (eqb n 1) Sizes Cells))
+    pick (eqb n 0) (effect (Opened (a .state)) Nothing) (stopping (pick (eqb n 1) Sizes Cells))
 
--- a put or an undo
-abbrev pub answeredBy : ℕ → Answer → Said
-answeredBy k a = said (Opened (a .state)) (answerText k (outcomeNumber (a .outcome)))
+unfoldable pub answered : Request → Answer → Effect
+answered (ToOpen z) a = opening a
+answered (ToPut p) a = goingOn Nothing a
+answered (ToUndo s) a = goingOn Nothing a
 
--- a request, and what its answer says
-abbrev pub serving : (Answer → Said) → Request → Buffers → Did
-serving says q b = let l = requested q (plateOf b) in did (says (l .answer)) (holding b (l .buffers))
+-- what a record asks for where a run stands. 15: "not open, or open again"
+unfoldable pub taskOf : Stage → Record → Task
+taskOf Ended r = ToStand Ended
+taskOf Closed (Open z) = ToCall (ToOpen z)
+taskOf Closed (Put p) = ToStop Order
+taskOf Closed (NoShape p) = ToStop Order
+taskOf Closed Undo = ToStop Order
+taskOf Closed Show = ToStop Order
+taskOf (Opened s) (Open z) = ToStop Order
+taskOf (Opened s) (Put p) = ToCall (putRequest s (putAsk p))
+taskOf (Opened s) (NoShape p) = ToCall (putRequest s (shapelessAsk p))
+taskOf (Opened s) Undo = ToCall (ToUndo s)
+taskOf (Opened s) Show = ToShow s
 
--- a show
-unfoldable pub shownText : ℕ → ℕ → ℕ → Outcome → List ℕ → List ℕ → List ℕ
-shownText k w h Accepted values mattes = showText w h values mattes
-shownText k w h (Refused f) values mattes = answerText k (refusalNumber f)
-
-abbrev pub shownBy : ℕ → Size → Answer → List ℕ → List ℕ → Said
-shownBy k z a values mattes = said (Opened (a .state)) (shownText k (z .width) (z .height) (a .outcome) values mattes)
-
-unfoldable pub showOn : ℕ → State → Buffers → Did
-showOn k s b =
-    let z = s .size in
-    let v = showCall s (take (planesOf z) (b .planes)) (viewsOf z b) in
-    did (shownBy k z (v .answer) (v .seen .values) (v .seen .mattes)) (viewsBack z (v .seen) b)
-
--- record K where a run stands
-unfoldable pub recordOn : ℕ → Stage → Record → Buffers → Did
-recordOn k Ended r b = did (said Ended []) b
-recordOn k Closed (Open z) b = serving (openedBy k) (ToOpen z) b
-recordOn k Closed (Put p) b = did (stoppedBy k Order) b
-recordOn k Closed (NoShape p) b = did (stoppedBy k Order) b
-recordOn k Closed Undo b = did (stoppedBy k Order) b
-recordOn k Closed Show b = did (stoppedBy k Order) b
-recordOn k (Opened s) (Open z) b = did (stoppedBy k Order) b
-recordOn k (Opened s) (Put p) b = serving (answeredBy k) (putRequest s (strokeAsk p)) b
-recordOn k (Opened s) (NoShape p) b = serving (answeredBy k) (putRequest s (shapelessAsk p)) b
-recordOn k (Opened s) Undo b = serving (answeredBy k) (ToUndo s) b
-recordOn k (Opened s) Show b = showOn k s b
+-- and what comes of it
+unfoldable pub performed : Task → Buffers → Did
+performed (ToStand s) b = did (effect s Nothing) b
+performed (ToStop s) b = did (stopping s) b
+performed (ToCall q) b =
+    let l = requested q (lent (b .planes) (b .pixels) (b .log)) in
+    did (answered q (l .answer)) (buffers (l .buffers .planes) (l .buffers .pixels) (l .buffers .log) (b .scratch) (b .values) (b .mattes))
+performed (ToShow s) b =
+    let v = showRequested s (b .planes) (views (b .scratch) (b .values) (b .mattes)) in
+    did (goingOn (Pictures (s .size)) (v .answer))
+    (buffers (b .planes) (b .pixels) (b .log) (v .seen .scratch) (v .seen .values) (v .seen .mattes))
 
 -- BYTES
 -- what comes of a machine: the machine after it, the buffers and the text
@@ -207,50 +212,37 @@ abbrev pub standing : Machine → Stage → Machine
 standing m s = machine s (m .kind) (m .held) (m .whole) (m .body) (m .count)
 
 abbrev pub doneBy : Machine → Did → Progress
-doneBy m d = fed (standing m (d .stage)) (d .buffers) (d .text)
+doneBy m d =
+    fed (standing m (d .effect .stage)) (d .buffers)
+    (replyText (m .count) (d .effect .reply) (d .buffers .values) (d .buffers .mattes))
 
--- what no run comes to ends without a word: a body longer than the longest, or more than 2^64 - 1 records
-abbrev pub lost : Machine → Buffers → Progress
-lost m b = fed (standing m Ended) b []
-
--- a byte taken in, and what there is to do next
-abbrev pub taken : Machine → Next → Taken
-taken m n = record { machine = m; next = n }
+-- a byte taken in, and what there is to do then
+abbrev pub taken : Machine → Task → Taken
+taken m t = record { machine = m; task = t }
 
 -- a record is done as soon as its body is whole
 unfoldable pub settledOf : Machine → Taken
-settledOf m = taken m (pick (ltb (m .held) (m .whole)) Wait Do)
+settledOf m =
+    taken m (pick (ltb (m .held) (m .whole)) (ToStand (m .stage)) (taskOf (m .stage) (recordOf (m .kind) (m .body))))
 
 -- a byte of kind. 13: "unknown kind"
 unfoldable pub begunBy : BodyLength → Machine → Taken
-begunBy NoKind m = taken m Refuse
+begunBy NoKind m = taken m (ToStop Kind)
 begunBy (Bytes n) m = settledOf (machine (m .stage) (m .kind) 0 n (m .body) (m .count))
 
+-- what no run comes to ends without a text: more than 2^64 - 1 records, or a body longer than the longest
 unfoldable pub begunOf : Machine → ℕ → Taken
 begunOf m x =
     pick (ltb (m .count) (2 ^ 64 - 1))
     (begunBy (bodyLength x) (machine (m .stage) x (m .held) (m .whole) (m .body) (m .count + 1)))
-    (taken m Lose)
+    (taken m (ToStand Ended))
 
 -- a byte of a body
 unfoldable pub carriedOf : Machine → ℕ → Taken
 carriedOf m x =
     pick (ltb (m .held) longestBody)
     (settledOf (machine (m .stage) (m .kind) (m .held + 1) (m .whole) (set (m .body) (m .held) x) (m .count)))
-    (taken m Lose)
-
-unfoldable pub takenOf : Machine → ℕ → Taken
-takenOf m x = pick (ltb (m .held) (m .whole)) (carriedOf m x) (begunOf m x)
-
--- and what is done
-unfoldable pub fedBy : Next → Machine → Buffers → Progress
-fedBy Wait m b = fed m b []
-fedBy Lose m b = lost m b
-fedBy Refuse m b = doneBy m (did (stoppedBy (m .count) Kind) b)
-fedBy Do m b = doneBy m (recordOn (m .count) (m .stage) (recordOf (m .kind) (m .body)) b)
-
-abbrev pub fedTaken : Taken → Buffers → Progress
-fedTaken t b = fedBy (t .next) (t .machine) b
+    (taken m (ToStand Ended))
 
 -- whether a run has stopped
 abbrev pub endedAt : Stage → Bool
@@ -258,9 +250,15 @@ endedAt Closed = false
 endedAt (Opened s) = false
 endedAt Ended = true
 
--- what a byte makes of a machine; no byte after a stop changes anything
+-- no byte after a stop changes anything
+unfoldable pub takenOf : Machine → ℕ → Taken
+takenOf m x =
+    pick (endedAt (m .stage)) (taken m (ToStand Ended))
+    (pick (ltb (m .held) (m .whole)) (carriedOf m x) (begunOf m x))
+
+-- what a byte makes of a machine
 unfoldable pub feedOf : Machine → ℕ → Buffers → Progress
-feedOf m x b = pick (endedAt (m .stage)) (fed m b []) (fedTaken (takenOf m x) b)
+feedOf m x b = let t = takenOf m x in doneBy (t .machine) (performed (t .task) b)
 
 -- the text at the end of the input. 14: "body cut short"; "Input that ends after a whole record, or is empty, prints `done` and
 -- the record count."
@@ -282,8 +280,8 @@ feedAll f [] = f
 feedAll f (x ∷ xs) = feedAll (fedOn f x) xs
 
 -- CALLS
--- what a call of advance leaves: its answer is the machine, how many bytes of the input it took and how many of text it wrote; the
--- text stands at the start of what it is lent for it
+-- what a call of advance leaves: its answer is the machine, how many bytes of the input it took and how many of text it wrote;
+-- the text stands at the start of what it is lent for it
 pub record AdvanceLeft : Type 0 where
   pub answer : Advanced
   pub buffers : Buffers
@@ -300,7 +298,8 @@ takes f (x ∷ xs) = pick (ltb fullFrom (length (f .text))) 0 (suc (takes (fedOn
 -- a front of the input, the machine and the buffers after it, and its text
 abbrev pub advancedBy : ℕ → Progress → List ℕ → AdvanceLeft
 advancedBy n f out =
-    advanceLeft (record { machine = f .machine; consumed = n; written = length (f .text) }) (f .buffers) (withText out 0 (f .text))
+    advanceLeft (record { machine = f .machine; consumed = n; written = length (f .text) })
+    (f .buffers) (withText out 0 (f .text))
 
 unfoldable pub advanceCall : Machine → List ℕ → Buffers → List ℕ → AdvanceLeft
 advanceCall m input b out =
@@ -308,18 +307,18 @@ advanceCall m input b out =
     advancedBy n (feedAll (fed m b []) (take n input)) out
 
 -- and a call of finish
-pub record Closing : Type 0 where
+pub record FinishLeft : Type 0 where
   pub out : List ℕ
   pub written : ℕ
 
-abbrev pub closing : List ℕ → ℕ → Closing
-closing out n = record { out = out; written = n }
+abbrev pub finishLeft : List ℕ → ℕ → FinishLeft
+finishLeft out n = record { out = out; written = n }
 
-abbrev pub closeWith : List ℕ → List ℕ → Closing
-closeWith t out = closing (withText out 0 t) (length t)
+abbrev pub finishedBy : List ℕ → List ℕ → FinishLeft
+finishedBy t out = finishLeft (withText out 0 t) (length t)
 
-unfoldable pub finishCall : Machine → List ℕ → Closing
-finishCall m out = closeWith (finishOf m) out
+unfoldable pub finishCall : Machine → List ℕ → FinishLeft
+finishCall m out = finishedBy (finishOf m) out
 
 -- A RUN
 -- the machine before the first byte
@@ -341,37 +340,37 @@ EndToEnd = (input : List Byte) → length input < 2 ^ 64 → machineText (codes 
 
 -- A RUN OF CALLS
 -- the machine and the buffers between two calls, what is lent for the text, and all that has been written
-pub record Calling : Type 0 where
+pub record BetweenCalls : Type 0 where
   pub machine : Machine
   pub buffers : Buffers
   pub out : List ℕ
-  pub told : List ℕ
+  pub printed : List ℕ
 
 -- a call of advance, and its text written
-abbrev pub telling : List ℕ → AdvanceLeft → Calling
-telling told l =
+abbrev pub afterCall : List ℕ → AdvanceLeft → BetweenCalls
+afterCall printed l =
     let a = l .answer in
-    record { machine = a .machine; buffers = l .buffers; out = l .out; told = told ++ take (a .written) (l .out) }
+    record { machine = a .machine; buffers = l .buffers; out = l .out; printed = printed ++ take (a .written) (l .out) }
 
 -- a part of the input, handed on from where the call before stopped, until it is consumed: in n calls at most
-unfoldable pub callsOn : ℕ → Calling → List ℕ → Calling
+unfoldable pub callsOn : ℕ → BetweenCalls → List ℕ → BetweenCalls
 callsOn zero c part = c
 callsOn (suc n) c [] = c
 callsOn (suc n) c (x ∷ xs) =
     let l = advanceCall (c .machine) (x ∷ xs) (c .buffers) (c .out) in
-    callsOn n (telling (c .told) l) (drop (l .answer .consumed) (x ∷ xs))
+    callsOn n (afterCall (c .printed) l) (drop (l .answer .consumed) (x ∷ xs))
 
 -- one part after another. A call takes a byte or more, so that no part needs more calls than it has bytes.
-unfoldable pub callsOnParts : Calling → List (List ℕ) → Calling
+unfoldable pub callsOnParts : BetweenCalls → List (List ℕ) → BetweenCalls
 callsOnParts c [] = c
 callsOnParts c (part ∷ parts) = callsOnParts (callsOn (length part) c part) parts
 
 -- the text of a run: of the calls of advance, and of the call of finish
 unfoldable pub callsText : List ℕ → List (List ℕ) → List ℕ
 callsText out parts =
-    let c = callsOnParts (record { machine = fresh; buffers = zeroed; out = out; told = [] }) parts in
+    let c = callsOnParts (record { machine = fresh; buffers = zeroed; out = out; printed = [] }) parts in
     let l = finishCall (c .machine) (c .out) in
-    c .told ++ take (l .written) (l .out)
+    c .printed ++ take (l .written) (l .out)
 
 unfoldable pub joined : List (List ℕ) → List ℕ
 joined [] = []

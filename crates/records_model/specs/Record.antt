@@ -13,7 +13,7 @@ use Rattle.plate_model.specs.Lent.{ask}
 use Rattle.records_model.specs.Fixed.{openBody, putBody, noShape}
 pub use Rattle.records_model.specs.declared.record.Record.{Record}
 pub use Rattle.records_model.specs.declared.record.Record.the-variants.{Open, Put, NoShape, Undo, Show}
-pub use Rattle.records_model.specs.declared.record.Stroke.{Stroke}
+pub use Rattle.records_model.specs.declared.record.PlacedPixel.{PlacedPixel}
 pub use Rattle.records_model.specs.declared.record.Shapeless.{Shapeless}
 pub use Rattle.records_model.specs.declared.record.BodyLength.{BodyLength}
 pub use Rattle.records_model.specs.declared.record.BodyLength.the-variants.{Bytes, NoKind}
@@ -58,8 +58,8 @@ recordOf kind body =
     (pick (eqb kind 3) Undo Show))
 
 -- what a put asks the plate for
-abbrev pub strokeAsk : Stroke → Ask
-strokeAsk p = ask (p .x) (p .y) (p .pixel .value) (p .pixel .opacity) (numberOf (p .pixel .shape)) (p .pixel .radius)
+abbrev pub putAsk : PlacedPixel → Ask
+putAsk p = ask (p .x) (p .y) (p .pixel .value) (p .pixel .opacity) (numberOf (p .pixel .shape)) (p .pixel .radius)
 
 -- without a shape it asks for a number that names none, so that 4 and 5 come before 6
 abbrev pub shapelessAsk : Shapeless → Ask

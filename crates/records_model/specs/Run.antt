@@ -11,12 +11,13 @@ use Rattle.plate_model.specs.Refusal.{sizesCheck}
 use Rattle.plate_model.specs.Notebook.{Book, openBook, Pictures, none, both, Report, BookLeft, bookPut, bookUndo, bookShowBy}
 use Rattle.records_model.specs.Fixed.{cellsTop, logRoom}
 use Rattle.records_model.specs.Text.{stoppedWord, refusedWord, numbered, doneLine, showText}
-use Rattle.records_model.specs.Record.{Record, Open, Put, NoShape, Undo, Show, Stop, Sizes, Order, Cells, stopNumber, strokeAsk, shapelessAsk, Items, over, broken, next, itemsOf}
+use Rattle.records_model.specs.Record.{Record, Open, Put, NoShape, Undo, Show, Stop, Sizes, Order, Cells, stopNumber}
+use Rattle.records_model.specs.Record.{putAsk, shapelessAsk, Items, over, broken, next, itemsOf}
 
--- no plate is open yet, or this notebook is
-pub data Desk : Type 0 where
-  closed : Desk
-  opened : Book → Desk
+-- no plate is open yet, or one with this notebook is
+pub data CurrentBook : Type 0 where
+  notOpen : CurrentBook
+  openWith : Book → CurrentBook
 
 -- what a record does: it stops the run, or it prints something and leaves a notebook
 pub data Act : Type 0 where
@@ -50,35 +51,35 @@ reportText k z r = answerText k (r .number) ++ pictureText z (r .pictures)
 abbrev pub noted : ℕ → Book → BookLeft → Act
 noted k b t = go (reportText k (b .size) (t .report)) (t .book)
 
--- record K on a desk
-unfoldable pub act : ℕ → Desk → Record → Act
-act k closed (Open z) = opens z
-act k closed (Put p) = stop Order
-act k closed (NoShape p) = stop Order
-act k closed Undo = stop Order
-act k closed Show = stop Order
-act k (opened b) (Open z) = stop Order
-act k (opened b) (Put p) = noted k b (bookPut b (strokeAsk p))
-act k (opened b) (NoShape p) = noted k b (bookPut b (shapelessAsk p))
-act k (opened b) Undo = noted k b (bookUndo b)
-act k (opened b) Show = noted k b (bookShowBy Accepted b)
+-- record K where this is the current notebook
+unfoldable pub act : ℕ → CurrentBook → Record → Act
+act k notOpen (Open z) = opens z
+act k notOpen (Put p) = stop Order
+act k notOpen (NoShape p) = stop Order
+act k notOpen Undo = stop Order
+act k notOpen Show = stop Order
+act k (openWith b) (Open z) = stop Order
+act k (openWith b) (Put p) = noted k b (bookPut b (putAsk p))
+act k (openWith b) (NoShape p) = noted k b (bookPut b (shapelessAsk p))
+act k (openWith b) Undo = noted k b (bookUndo b)
+act k (openWith b) Show = noted k b (bookShowBy Accepted b)
 
 -- "Numbers 1 and 13 to 16 print `stopped N at K` and end"; "K counts records from 1."
 abbrev pub stopText : ℕ → Stop → List ℕ
 stopText k s = numbered stoppedWord (stopNumber s) k
 
 -- the text of what a record does, and what comes after it
-abbrev pub thenText : ℕ → Act → (Desk → List ℕ) → List ℕ
+abbrev pub thenText : ℕ → Act → (CurrentBook → List ℕ) → List ℕ
 thenText k (stop s) rest = stopText k s
-thenText k (go text b) rest = text ++ rest (opened b)
+thenText k (go text b) rest = text ++ rest (openWith b)
 
 -- the text of a run that has done k records; "Input that ends after a whole record, or is empty, prints `done` and the record
 -- count."
-unfoldable pub textFrom : ℕ → Desk → Items → List ℕ
+unfoldable pub textFrom : ℕ → CurrentBook → Items → List ℕ
 textFrom k d over = doneLine k
 textFrom k d (broken s) = stopText (k + 1) s
 textFrom k d (next r items) = thenText (k + 1) (act (k + 1) d r) (λ e. textFrom (k + 1) e items)
 
 -- the text of an input, by the paper
 unfoldable pub paperText : List ℕ → List ℕ
-paperText input = textFrom 0 closed (itemsOf input)
+paperText input = textFrom 0 notOpen (itemsOf input)

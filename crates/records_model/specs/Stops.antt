@@ -11,7 +11,7 @@ use Rattle.plate_model.specs.Table.{Outside, SizesOutside}
 use Rattle.plate_model.specs.Notebook.{Book}
 use Rattle.records_model.specs.Fixed.{cellsTop, openBody, putBody}
 use Rattle.records_model.specs.Record.{Stop, Sizes, Kind, Body, Order, Cells, Bytes, bodyLength, pair, recordOf, itemsBy}
-use Rattle.records_model.specs.Run.{Desk, closed, opened, go, act, stopText, textFrom}
+use Rattle.records_model.specs.Run.{CurrentBook, notOpen, openWith, go, act, stopText, textFrom}
 
 -- 13: "unknown kind": "1 open .., 2 put .., 3 undo, 4 show"
 abbrev pub KindUnknown : ℕ → Type 0
@@ -22,16 +22,16 @@ unfoldable pub BodyShort : ℕ → List ℕ → Type 0
 BodyShort kind rest = ((kind ≡ 1) × (length rest < openBody)) ⊎ ((kind ≡ 2) × (length rest < putBody))
 
 -- 15: "not open, or open again"
-unfoldable pub OutOfOrder : Desk → ℕ → Type 0
-OutOfOrder closed kind = kind ≢ 1
-OutOfOrder (opened b) kind = kind ≡ 1
+unfoldable pub OutOfOrder : CurrentBook → ℕ → Type 0
+OutOfOrder notOpen kind = kind ≢ 1
+OutOfOrder (openWith b) kind = kind ≡ 1
 
 -- an open's sizes: "W 2 bytes, H 2, R 1"
 abbrev pub openSize : List ℕ → Size
 openSize body = sizeFrom (pair body 0) (pair body 2) (getD body 4 0)
 
--- "Checks: 13, 14, 15, then 1, 16": a byte of kind, and what follows it, on a desk. 16: "P above 512"
-abbrev pub recordRows : Desk → ℕ → List ℕ → List (TableRow Stop)
+-- "Checks: 13, 14, 15, then 1, 16": of a byte of kind, and what follows it. 16: "P above 512"
+abbrev pub recordRows : CurrentBook → ℕ → List ℕ → List (TableRow Stop)
 recordRows d kind rest =
     row Kind (KindUnknown kind)
     ∷ row Body (BodyShort kind rest)
@@ -40,19 +40,20 @@ recordRows d kind rest =
     ∷ row Cells ((kind ≡ 1) × (cellsTop < padded (openSize rest)))
     ∷ []
 
--- a run that has done k records goes on after this one: the record of its kind's body is done, and then come its text and the text
--- of what follows that body, with the notebook that it leaves
-pub record GoesOnAfter (k n : ℕ) (d : Desk) (kind : ℕ) (rest : List ℕ) : Type 0 where
+-- a run that has done k records goes on after this one: the record of its kind's body is done, and then come its text and the
+-- text of what follows that body, with the notebook that it leaves
+pub record GoesOnAfter (k n : ℕ) (d : CurrentBook) (kind : ℕ) (rest : List ℕ) : Type 0 where
   pub body : ℕ
   pub text : List ℕ
   pub book : Book
   pub body-is : bodyLength kind ≡ Bytes body
   pub done : act (k + 1) d (recordOf kind (take body rest)) ≡ go text book
-  pub goes-on : textFrom k d (itemsBy (suc n) (kind ∷ rest)) ≡ text ++ textFrom (k + 1) (opened book) (itemsBy n (drop body rest))
+  pub goes-on : textFrom k d (itemsBy (suc n) (kind ∷ rest))
+      ≡ text ++ textFrom (k + 1) (openWith book) (itemsBy n (drop body rest))
 
 -- STOPS: a record stops the run by the first of its rows that applies, and the run goes on where none does
 abbrev pub StopsByRows : Type 0
 StopsByRows =
-    (k n : ℕ) (d : Desk) (kind : ℕ) (rest : List ℕ)
+    (k n : ℕ) (d : CurrentBook) (kind : ℕ) (rest : List ℕ)
     → FirstOf (λ s. textFrom k d (itemsBy (suc n) (kind ∷ rest)) ≡ stopText (k + 1) s) (GoesOnAfter k n d kind rest)
     (recordRows d kind rest)

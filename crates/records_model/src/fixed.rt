@@ -25,8 +25,8 @@ pub const NO_SHAPE: u8 = SHAPES as u8;
 // The bytes of a record's text: no record writes more.
 pub const TEXT: usize = 4096;
 
-// The bytes that a call is lent for its text, and how many may stand there before the next byte: the text of any record still fits
-// then.
+// The bytes that a call is lent for its text, and how many may stand there before the next byte: the text of any record still
+// fits then.
 pub const BUFFER: usize = 65536;
 
 pub const FULL: usize = BUFFER - TEXT;

@@ -1,6 +1,7 @@
 // The machine between two bytes, and what a byte makes of it.
+use crate::effect::Stage;
 use crate::fixed::Body;
-use crate::perform::Stage;
+use crate::request::Task;
 
 // A run between two bytes: where it stands, the record that is being read (its kind, how many bytes of its body are held, and of
 // how many), and how many records have begun.
@@ -13,16 +14,8 @@ pub struct Machine {
     pub count: u64,
 }
 
-// What there is to do once a byte is taken in: wait for the next one, do the record, refuse its kind, or give a machine up that no
-// run comes to.
-pub enum Next {
-    Wait,
-    Do,
-    Refuse,
-    Lose,
-}
-
+// A byte taken in, and what there is to do then.
 pub struct Taken {
     pub machine: Machine,
-    pub next: Next,
+    pub task: Task,
 }

@@ -3,7 +3,7 @@ use plate_model::size::Size;
 use plate_model::word::Pixel;
 
 // A put's place, and the pixel that it asks for.
-pub struct Stroke {
+pub struct PlacedPixel {
     pub x: usize,
     pub y: usize,
     pub pixel: Pixel,
@@ -19,7 +19,7 @@ pub struct Shapeless {
 // One record with its whole body.
 pub enum Record {
     Open(Size),
-    Put(Stroke),
+    Put(PlacedPixel),
     NoShape(Shapeless),
     Undo,
     Show,

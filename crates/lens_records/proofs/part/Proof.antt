@@ -1,5 +1,5 @@
--- Each call takes a byte or more of what is left, and no more than is left; after it a longer front of the part is fed, and at the
--- end all of it.
+-- Each call takes a byte or more of what is left, and no more than is left; after it a longer front of the part is fed, and at
+-- the end all of it.
 use mathlib.Core.Path.{_≡_, sym, _∙_}
 use Prim.Native.Nat.{_-_, _≤_}
 use native.Mathlib.Omega.{arith}
@@ -39,7 +39,7 @@ add-at c = omega (arith, inside c .loop-test .taken, inside c .before .before .b
 
 loop-less : tie.Need-loop-less Inv-loop μ-loop
 loop-less c =
-    let more = c .before .tell .ensures .taking .some (omega (arith, inside c .loop-test .taken)) in
+    let more = c .before .advance-and-write .ensures .taking .some (omega (arith, inside c .loop-test .taken)) in
     omega (arith, more, inside c .loop-test .taken)
 
 loop-again : tie.Need-loop-again Inv-loop μ-loop
@@ -48,10 +48,11 @@ loop-again c =
     let input = looped .before .before .args .input .now in
     let at = looped .loop .at in
     let fed = looped .loop .inv in
-    let told = c .before .tell .ensures in
-    let rest : take (length input - at) (drop at input) ≡ drop at input = take-all (length input - at) (drop at input) (omega (arith, length-drop at input)) in (
-      omega (arith, rw rest at (told .taking .within), length-drop at input, fed .0),
-      fed-on _ _ input at (c .before .tell .result .consumed) _ _ _ _ (fed .1) (rw rest at (told .fed-to)),
+    let fed-front = c .before .advance-and-write .ensures in
+    let rest : take (length input - at) (drop at input) ≡ drop at input =
+    take-all (length input - at) (drop at input) (omega (arith, length-drop at input)) in (
+      omega (arith, rw rest at (fed-front .taking .within), length-drop at input, fed .0),
+      fed-on _ _ input at (c .before .advance-and-write .result .consumed) _ _ _ _ (fed .1) (rw rest at (fed-front .fed-to)),
     )
 
 returns-2 : tie.Need-returns-2 Inv-loop μ-loop

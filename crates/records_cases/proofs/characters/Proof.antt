@@ -6,12 +6,10 @@ use Rattle.records_cases.proofs.characters.Statement.{statement}
 use Rattle.records_cases.proofs.characters.Tie as tie
 
 abbrev Inv-loop : tie.InvT-loop
-Inv-loop case planes₀ pixels₀ log₀ scratch₀ values₀ mattes₀ text₀ run₀ i₀ i-end planes pixels log scratch values mattes text run i =
-    i ≤ length case
+Inv-loop case _ _ _ _ _ _ _ _ _ _ _ _ _ _ _ _ _ _ i = i ≤ length case
 
 abbrev μ-loop : tie.MeasureT-loop
-μ-loop case planes₀ pixels₀ log₀ scratch₀ values₀ mattes₀ text₀ run₀ i₀ i-end planes pixels log scratch values mattes text run i =
-    length case - i
+μ-loop case _ _ _ _ _ _ _ _ _ _ _ _ _ _ _ _ _ _ i = length case - i
 
 pub characters-spec : {M : Type 1} → statement M
 characters-spec =

@@ -7,7 +7,7 @@ use Rattle.kernels_model.proofs.numbers.Choices.{by-lt}
 use Rattle.kernels_model.proofs.numbers.Products.{product-le}
 use Rattle.plate_model.specs.Layout.{wide, high, padded, places}
 use Rattle.plate_model.specs.declared.size.Size.{Size}
-use Rattle.records_model.specs.Machine.{ifRoom, cellsOf, placesOf}
+use Rattle.records_model.specs.Machine.{ifRoom, lentCells, lentPlaces}
 use Rattle.records_model.specs.Fixed.{cellsTop}
 
 pub has-room : (z : Size) (n : ℕ) → padded z ≤ cellsTop → ifRoom z n ≡ n
@@ -27,11 +27,11 @@ pub tall : (z : Size) → cellsTop < high z → cellsTop < padded z
 tall z h = omega (arith, product-le 1 (suc cellsTop) (wide z) (high z) (omega arith) h)
 
 -- so the lengths of what is lent are within the buffers
-pub cells-within : (z : Size) → cellsOf z ≤ cellsTop
+pub cells-within : (z : Size) → lentCells z ≤ cellsTop
 cells-within z =
     by-lt cellsTop (padded z) (λ h. rw (no-room z (padded z) h) (omega arith)) (λ h. rw (has-room z (padded z) h) h)
 
-pub places-within : (z : Size) → placesOf z ≤ cellsTop
+pub places-within : (z : Size) → lentPlaces z ≤ cellsTop
 places-within z =
     by-lt cellsTop (padded z) (λ h. rw (no-room z (places z) h) (omega arith))
     (λ h. rw (has-room z (places z) h) (omega (arith, places-few z)))

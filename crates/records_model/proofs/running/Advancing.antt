@@ -9,7 +9,8 @@ use lib.ListN.{length, take, getD}
 use lib.Seq.{take-suc}
 use Rattle.kernels_model.proofs.numbers.Choices.{by-lt}
 use Rattle.records_model.specs.Fixed.{fullFrom}
-use Rattle.records_model.specs.Machine.{Machine, Buffers, Progress, fed, fedThen, fedOn, feedOf, feedAll, takes, Advanced, AdvanceLeft, advanceLeft, advanceCall, Taking, GoesOn}
+use Rattle.records_model.specs.Machine.{Machine, Buffers, Progress, fed, fedThen, fedOn, feedOf, feedAll, takes, Advanced}
+use Rattle.records_model.specs.Machine.{AdvanceLeft, advanceLeft, advanceCall, Taking, GoesOn}
 
 -- FED IN TURN
 pub fed-both : (f : Progress) (xs ys : List ℕ) → feedAll f (xs ++ ys) ≡ feedAll (feedAll f xs) ys
@@ -37,7 +38,8 @@ unfolding takes
 takes-none f [] h = refl
 takes-none f (x ∷ xs) h = rw (lt-ltb fullFrom (length (f .text)) h)
 
-pub takes-next : (f : Progress) (x : ℕ) (xs : List ℕ) → length (f .text) ≤ fullFrom → takes f (x ∷ xs) ≡ suc (takes (fedOn f x) xs)
+pub takes-next : (f : Progress) (x : ℕ) (xs : List ℕ) → length (f .text) ≤ fullFrom
+    → takes f (x ∷ xs) ≡ suc (takes (fedOn f x) xs)
 unfolding takes
 takes-next f x xs h = rw (le-ltb fullFrom (length (f .text)) h)
 

@@ -13,8 +13,14 @@ use Rattle.kernels_model.specs.Choice.{pick}
 use Rattle.kernels_model.proofs.numbers.Choices.{by-lt}
 use Rattle.records_model.specs.Record.{Body, recordOf}
 use Rattle.records_model.specs.Run.{stopText}
-use Rattle.records_model.specs.Machine.{Stage, Ended, Machine, machine, Buffers, recordOn, Progress, fed, fedThen, doneBy, settledOf, carriedOf, takenOf, fedBy, fedTaken, endedAt, feedOf, endText, finishOf, feedAll, fresh, zeroed, machineText}
+use Rattle.records_model.specs.Machine.{Stage, Ended, Machine, machine, Buffers, replyText, taskOf, performed}
+use Rattle.records_model.specs.Machine.{Progress, fed, fedThen, doneBy, Taken, settledOf, carriedOf, takenOf, endedAt}
+use Rattle.records_model.specs.Machine.{feedOf, endText, finishOf, feedAll, fresh, zeroed, machineText}
 use Rattle.records_model.specs.Fixed.{longestBody}
+
+-- a byte taken in, and its task done
+abbrev pub fedTaken : Taken → Buffers → Progress
+fedTaken t b = doneBy (t .machine) (performed (t .task) b)
 
 -- THE TEXT FROM A MACHINE ON
 unfoldable pub run : Machine → Buffers → List ℕ → List ℕ
@@ -37,15 +43,11 @@ machine-text-run input = all-onward (fed fresh zeroed []) input
 
 pub run-ended : (kind held whole : ℕ) (body : List ℕ) (count : ℕ) (b : Buffers) (xs : List ℕ)
     → run (machine Ended kind held whole body count) b xs ≡ []
-unfolding run finishOf feedOf
+unfolding run finishOf feedOf takenOf performed replyText
 run-ended kind held whole body count b [] = refl
 run-ended kind held whole body count b (x ∷ xs) = run-ended kind held whole body count b xs
 
 -- THE END HAS NOT COME
-pub fed-live : (m : Machine) (x : ℕ) (b : Buffers) → endedAt (m .stage) ≡ false → feedOf m x b ≡ fedTaken (takenOf m x) b
-unfolding feedOf
-fed-live m x b h = rw h
-
 pub last-live : (m : Machine) → endedAt (m .stage) ≡ false → finishOf m ≡ endText m
 unfolding finishOf
 last-live m h = rw h
@@ -76,26 +78,25 @@ filled-take body i (x ∷ xs) (suc j) p q =
 -- a machine whose record's body is whole does the record
 abbrev pub finished : Stage → ℕ → ℕ → List ℕ → ℕ → Buffers → Progress
 finished s kind whole body count b =
-    doneBy (machine s kind whole whole body count) (recordOn count s (recordOf kind body) b)
+    doneBy (machine s kind whole whole body count) (performed (taskOf s (recordOf kind body)) b)
 
 -- a machine that waits for more of a body
 settled-waits : (s : Stage) (kind held whole : ℕ) (body : List ℕ) (count : ℕ) (b : Buffers) → held < whole
     → fedTaken (settledOf (machine s kind held whole body count)) b ≡ fed (machine s kind held whole body count) b []
-unfolding settledOf fedBy
+unfolding settledOf performed replyText
 settled-waits s kind held whole body count b h = rw (lt-ltb held whole h)
 
 settled-does : (s : Stage) (kind whole : ℕ) (body : List ℕ) (count : ℕ) (b : Buffers)
     → fedTaken (settledOf (machine s kind whole whole body count)) b ≡ finished s kind whole body count b
-unfolding settledOf fedBy
+unfolding settledOf
 settled-does s kind whole body count b = rw (le-ltb whole whole (omega arith))
 
 fed-body : (s : Stage) → endedAt s ≡ false → (kind held whole : ℕ) (body : List ℕ) (count x : ℕ) (b : Buffers)
     → held < whole → held < longestBody
     → feedOf (machine s kind held whole body count) x b
     ≡ fedTaken (settledOf (machine s kind (held + 1) whole (set body held x) count)) b
-unfolding takenOf carriedOf
-fed-body s live kind held whole body count x b h few =
-    fed-live (machine s kind held whole body count) x b live ∙ rw (lt-ltb held whole h, lt-ltb held longestBody few)
+unfolding feedOf takenOf carriedOf
+fed-body s live kind held whole body count x b h few = rw (live, lt-ltb held whole h, lt-ltb held longestBody few)
 
 cut-short : (s : Stage) → endedAt s ≡ false → (kind held whole : ℕ) (body : List ℕ) (count : ℕ) → held < whole
     → finishOf (machine s kind held whole body count) ≡ stopText count Body
@@ -110,20 +111,18 @@ fewer a b =
     (λ h. rw (le-ltb a b h, le-ltb (suc a) (suc b) (omega arith)))
 
 -- a machine that waits for j bytes of a body: 14 where the input has fewer, else the record is done with the next j bytes
-pub body-read : (s : Stage) → endedAt s ≡ false → (kind held whole : ℕ) (body : List ℕ) (count : ℕ) (b : Buffers) (xs : List ℕ) (j : ℕ)
+pub body-read : (s : Stage) → endedAt s ≡ false
+    → (kind held whole : ℕ) (body : List ℕ) (count : ℕ) (b : Buffers) (xs : List ℕ) (j : ℕ)
     → held + j ≡ whole → whole ≤ longestBody
     → onward (fedTaken (settledOf (machine s kind held whole body count)) b) xs
     ≡ pick (ltb (length xs) j) (stopText count Body) (onward (finished s kind whole (filled body held xs j) count b) (drop j xs))
 unfolding filled run
 body-read s live kind held whole body count b xs zero e few =
     let same : held ≡ whole = omega arith in
-    rw (same, settled-does s kind whole body count b, le-ltb (length xs) 0 (omega arith))
+    rw (same, le-ltb (length xs) 0 (omega arith)) (ap (λ (f : Progress). onward f xs) (settled-does s kind whole body count b))
 body-read s live kind held whole body count b [] (suc j) e few =
-    rw (
-      settled-waits s kind held whole body count b (omega arith),
-      cut-short s live kind held whole body count (omega arith),
-      lt-ltb 0 (suc j) (omega arith),
-    )
+    ap (λ (f : Progress). onward f []) (settled-waits s kind held whole body count b (omega arith))
+    ∙ rw (cut-short s live kind held whole body count (omega arith), lt-ltb 0 (suc j) (omega arith))
 body-read s live kind held whole body count b (x ∷ xs) (suc j) e few =
     ap (λ (f : Progress). onward f (x ∷ xs)) (settled-waits s kind held whole body count b (omega arith))
     ∙ ap (λ (f : Progress). onward f xs) (fed-body s live kind held whole body count x b (omega arith) (omega arith))

@@ -22,28 +22,30 @@ use Rattle.plate_model.proofs.checks.Conditions.{sizes-checks}
 use Rattle.plate_model.proofs.checks.Passed.{lent-pass}
 use Rattle.plate_model.proofs.demands.Mirror.{Mirrored, heldBy, mirror, put-agrees, undo-agrees}
 use Rattle.plate_model.proofs.demands.Fills.{open-kept, open-mirror}
-use Rattle.records_model.specs.Record.{Record, Open, Put, NoShape, Undo, Show, strokeAsk, shapelessAsk}
-use Rattle.records_model.specs.Run.{Desk, opens, act}
-use Rattle.records_model.specs.Machine.{Stage, Buffers, cellsOf, placesOf, planesOf, frontOf, ToOpen, requestCall, requested, Did, openedBy, serving, recordOn}
+use Rattle.records_model.specs.Record.{Record, Open, Put, NoShape, Undo, Show, putAsk, shapelessAsk}
+use Rattle.records_model.specs.Run.{CurrentBook, opens, act}
+use Rattle.records_model.specs.Machine.{Stage, Buffers, lentCells, lentPlaces, planeCells, plateFront, ToOpen, ToCall}
+use Rattle.records_model.specs.Machine.{requestCall}
+use Rattle.records_model.specs.Machine.{requested, replyText, opening, answered, taskOf, performed}
 use Rattle.records_model.proofs.reading.Bodies.{LawfulRecord}
 use Rattle.records_model.proofs.lending.Rooms.{has-room, places-few}
-use Rattle.records_model.proofs.standing.Invariant.{RightLengths, lentOf, Stands, at-closed, at-open, Agrees, part-length, open-again, answered-agrees, show-agree}
+use Rattle.records_model.proofs.standing.Invariant.{RightLengths, lentOf, Stands, at-closed, at-open, Agrees, part-length}
+use Rattle.records_model.proofs.standing.Invariant.{open-again, answered-agrees, show-agree}
 use Rattle.records_model.specs.Fixed.{cellsTop, logRoom}
 use Rattle.plate_model.specs.Fixed.{planesInAll}
 
 -- OPEN
-abbrev opening : ℕ → Size → Buffers → Did
-opening k z b = serving (openedBy k) (ToOpen z) b
-
 module _ (k : ℕ) (z : Size) (b : Buffers) (s : RightLengths b) where
-  open-sizes : ((next : Outcome) → sizesCheck z next ≡ Refused BadSizes) → Agrees k (opens z) (opening k z b)
-  unfolding opens requested requestCall openCall openBy openCheck openedBy
+  open-sizes : ((next : Outcome) → sizesCheck z next ≡ Refused BadSizes) → Agrees k (opens z) (performed (ToCall (ToOpen z)) b)
+  unfolding opens performed requested requestCall openCall openBy openCheck answered opening replyText
   open-sizes bad = rw (bad Accepted, bad (lentCheck z (lengthsOf (lentOf z b)) Accepted)) (refl, refl)
 
-  open-cells : ((next : Outcome) → sizesCheck z next ≡ next) → cellsTop < padded z → Agrees k (opens z) (opening k z b)
-  unfolding opens requested requestCall openCall openBy openCheck openedBy lentCheck frontOf refuseIf
+  open-cells : ((next : Outcome) → sizesCheck z next ≡ next) → cellsTop < padded z
+      → Agrees k (opens z) (performed (ToCall (ToOpen z)) b)
+  unfolding opens performed requested requestCall openCall openBy openCheck answered opening replyText
+      lentCheck plateFront refuseIf
   open-cells fine h =
-      let none : cellsOf z ≡ 0 = rw (lt-ltb cellsTop (padded z) h) in
+      let none : lentCells z ≡ 0 = rw (lt-ltb cellsTop (padded z) h) in
       rw (
         fine Accepted,
         fine (lentCheck z (lengthsOf (lentOf z b)) Accepted),
@@ -52,8 +54,9 @@ module _ (k : ℕ) (z : Size) (b : Buffers) (s : RightLengths b) where
       )
       (refl, refl)
 
-  open-passes : ((next : Outcome) → sizesCheck z next ≡ next) → padded z ≤ cellsTop → openCheck z (lengthsOf (lentOf z b)) ≡ Accepted
-  unfolding openCheck frontOf
+  open-passes : ((next : Outcome) → sizesCheck z next ≡ next) → padded z ≤ cellsTop
+      → openCheck z (lengthsOf (lentOf z b)) ≡ Accepted
+  unfolding openCheck plateFront
   open-passes fine h =
       let cells = has-room z (padded z) h in
       let pixels = has-room z (places z) h in
@@ -62,17 +65,18 @@ module _ (k : ℕ) (z : Size) (b : Buffers) (s : RightLengths b) where
       ∙ lent-pass z (lengthsOf (lentOf z b)) Accepted
       (record {
         planes-are =
-            part-length (planesOf z) (b .planes) (omega (arith, s .planes-are)) ∙ ap (λ (n : ℕ). planesInAll * n) cells;
-        pixels-are = part-length (placesOf z) (b .pixels) (omega (arith, s .pixels-are)) ∙ pixels;
+            part-length (planeCells z) (b .planes) (omega (arith, s .planes-are)) ∙ ap (λ (n : ℕ). planesInAll * n) cells;
+        pixels-are = part-length (lentPlaces z) (b .pixels) (omega (arith, s .pixels-are)) ∙ pixels;
         log-top = omega (arith, s .log-is);
       })
 
   log-long : length (lentOf z b .log) ≡ logRoom
-  unfolding frontOf
+  unfolding plateFront
   log-long = s .log-is
 
-  open-fits : ((next : Outcome) → sizesCheck z next ≡ next) → padded z ≤ cellsTop → Agrees k (opens z) (opening k z b)
-  unfolding opens requested requestCall openedBy
+  open-fits : ((next : Outcome) → sizesCheck z next ≡ next) → padded z ≤ cellsTop
+      → Agrees k (opens z) (performed (ToCall (ToOpen z)) b)
+  unfolding opens performed requested requestCall answered opening replyText
   open-fits fine h =
       let l = lentOf z b in
       let e = open-passes fine h in
@@ -85,16 +89,16 @@ module _ (k : ℕ) (z : Size) (b : Buffers) (s : RightLengths b) where
       rw (fine Accepted, le-ltb cellsTop (padded z) h, accepted, state)
       (refl, open-again z b (openCall z l .buffers) planes grid [] h s (ap (λ (p : Plate). p .buffers) mirrors) kept)
 
-  pub open-agrees : Agrees k (opens z) (opening k z b)
+  pub open-agrees : Agrees k (opens z) (performed (ToCall (ToOpen z)) b)
   open-agrees =
       by-check (sizes-checks z)
       (λ outside bad. open-sizes bad)
       (λ lawful fine. by-lt cellsTop (padded z) (open-cells fine) (open-fits fine))
 
 -- A RECORD
-pub acts-agree : (k : ℕ) (s : Stage) (b : Buffers) (d : Desk) (r : Record) → Stands s b d → LawfulRecord r
-    → Agrees k (act k d r) (recordOn k s r b)
-unfolding act recordOn requested requestCall
+pub acts-agree : (k : ℕ) (s : Stage) (b : Buffers) (d : CurrentBook) (r : Record) → Stands s b d → LawfulRecord r
+    → Agrees k (act k d r) (performed (taskOf s r) b)
+unfolding act taskOf performed requested requestCall answered replyText
 acts-agree k s b d (Open a) (at-closed lentLengths) h = open-agrees k _ b lentLengths
 acts-agree k s b d (Put p) (at-closed lentLengths) h = (refl, refl)
 acts-agree k s b d (NoShape p) (at-closed lentLengths) h = (refl, refl)
@@ -102,8 +106,8 @@ acts-agree k s b d Undo (at-closed lentLengths) h = (refl, refl)
 acts-agree k s b d Show (at-closed lentLengths) h = (refl, refl)
 acts-agree k s b d (Open a) (at-open z planes grid pile lentLengths small kept e) h = (refl, refl)
 acts-agree k s b d (Put p) (at-open z planes grid pile lentLengths small kept e) h =
-    let left = putCall (stateOf z (length pile)) (strokeAsk p) (heldBy logRoom planes grid pile) in
-    rw e (answered-agrees k z b grid pile left _ small lentLengths (put-agrees z logRoom planes grid pile kept (strokeAsk p) h))
+    let left = putCall (stateOf z (length pile)) (putAsk p) (heldBy logRoom planes grid pile) in
+    rw e (answered-agrees k z b grid pile left _ small lentLengths (put-agrees z logRoom planes grid pile kept (putAsk p) h))
 acts-agree k s b d (NoShape p) (at-open z planes grid pile lentLengths small kept e) h =
     let left = putCall (stateOf z (length pile)) (shapelessAsk p) (heldBy logRoom planes grid pile) in
     rw e

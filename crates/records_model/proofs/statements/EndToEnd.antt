@@ -12,9 +12,14 @@ use Rattle.plate_model.specs.Listed.{zeros}
 use Rattle.plate_model.specs.Notebook.{Book}
 use Rattle.plate_model.specs.Lists.{Byte, codes}
 use Rattle.records_model.specs.Record.{Kind, Bytes, NoKind, bodyLength, recordOf, next, withBody, itemsBy, itemsOf}
-use Rattle.records_model.specs.Run.{Desk, closed, opened, Act, stop, go, act, stopText, thenText, textFrom, paperText}
-use Rattle.records_model.specs.Machine.{Stage, Closed, machine, Buffers, Did, recordOn, Progress, doneBy, settledOf, begunBy, begunOf, takenOf, fedBy, fedTaken, endedAt, feedOf, endText, zeroed, EndToEnd}
-use Rattle.records_model.proofs.running.Feeding.{run, onward, machine-text-run, run-ended, fed-live, last-live, filled, filled-take, body-read}
+use Rattle.records_model.specs.Run.{CurrentBook, notOpen, openWith, Act, stop, go, act, stopText, thenText, textFrom}
+use Rattle.records_model.specs.Run.{paperText}
+use Rattle.records_model.specs.Machine.{Stage, Closed, machine, Buffers, Did, replyText, taskOf, performed, Progress}
+use Rattle.records_model.specs.Machine.{doneBy}
+use Rattle.records_model.specs.Machine.{settledOf, begunBy, begunOf, takenOf, endedAt, feedOf, endText, zeroed}
+use Rattle.records_model.specs.Machine.{EndToEnd}
+use Rattle.records_model.proofs.running.Feeding.{fedTaken, run, onward, machine-text-run, run-ended, last-live, filled}
+use Rattle.records_model.proofs.running.Feeding.{filled-take, body-read}
 use Rattle.records_model.proofs.standing.Invariant.{RightLengths, Stands, at-closed, at-open, Agrees}
 use Rattle.records_model.proofs.standing.Acts.{acts-agree}
 use Rattle.records_model.proofs.reading.Bodies.{AllBytes, take-bytes, drop-bytes, front-open, front-put, record-lawful}
@@ -27,32 +32,32 @@ filled-length body i [] (suc j) = refl
 filled-length body i (x ∷ xs) (suc j) = filled-length (set body i x) (i + 1) xs j ∙ length-set body i x
 
 -- A RECORD AND WHAT COMES AFTER IT
-stands-live : (s : Stage) (b : Buffers) (d : Desk) → Stands s b d → endedAt s ≡ false
+stands-live : (s : Stage) (b : Buffers) (d : CurrentBook) → Stands s b d → endedAt s ≡ false
 stands-live s b d (at-closed h) = refl
 stands-live s b d (at-open z planes grid pile h small kept e) = refl
 
-goes-on : (k : ℕ) (a : Act) (d : Did) (s : Stage) (kind whole : ℕ) (body : List ℕ) (xs : List ℕ) (rest : Desk → List ℕ)
+goes-on : (k : ℕ) (a : Act) (d : Did) (s : Stage) (kind whole : ℕ) (body : List ℕ) (xs : List ℕ) (rest : CurrentBook → List ℕ)
     → Agrees k a d
-    → ((t : Stage) (b : Buffers) (book : Book) → Stands t b (opened book)
-    → run (machine t kind whole whole body k) b xs ≡ rest (opened book))
+    → ((t : Stage) (b : Buffers) (book : Book) → Stands t b (openWith book)
+    → run (machine t kind whole whole body k) b xs ≡ rest (openWith book))
     → onward (doneBy (machine s kind whole whole body k) d) xs ≡ thenText k a rest
 goes-on k (stop why) d s kind whole body xs rest agrees after =
     rw (agrees .0, agrees .1, run-ended kind whole whole body k (d .buffers) xs) (append-nil (stopText k why))
 goes-on k (go text book) d s kind whole body xs rest agrees after =
-    rw (agrees .0, after (d .stage) (d .buffers) book (agrees .1))
+    rw (agrees .0, after (d .effect .stage) (d .buffers) book (agrees .1))
 
 -- THE INDUCTION
 -- what holds of a machine between two records, for inputs shorter than n
 abbrev Follows : ℕ → Type 0
 Follows n =
-    (s : Stage) (kind whole : ℕ) (body : List ℕ) (k : ℕ) (b : Buffers) (d : Desk) (input : List ℕ) → length input < n
+    (s : Stage) (kind whole : ℕ) (body : List ℕ) (k : ℕ) (b : Buffers) (d : CurrentBook) (input : List ℕ) → length input < n
     → Stands s b d → length body ≡ longestBody → k + length input < 2 ^ 64 → AllBytes input
     → run (machine s kind whole whole body k) b input ≡ textFrom k d (itemsBy n input)
 
 -- a kind with a body of m bytes
 known-kind : (n : ℕ) → Follows n → (m : ℕ) → m ≤ longestBody → (kind : ℕ)
     → ((body : List ℕ) → recordOf kind body ≡ recordOf kind (take m body))
-    → (s : Stage) (body : List ℕ) (k : ℕ) (b : Buffers) (d : Desk) (xs : List ℕ) → length xs < n
+    → (s : Stage) (body : List ℕ) (k : ℕ) (b : Buffers) (d : CurrentBook) (xs : List ℕ) → length xs < n
     → Stands s b d → length body ≡ longestBody → k + 1 + length xs < 2 ^ 64 → AllBytes xs
     → onward (fedTaken (settledOf (machine s kind 0 m body (k + 1))) b) xs
     ≡ textFrom k d (withBody (Bytes m) xs (λ l. next (recordOf kind (take l xs)) (itemsBy n (drop l xs))))
@@ -67,12 +72,12 @@ known-kind n follows m few kind front s body k b d xs short stands long fits sma
     let held : take m now ≡ take m xs = rw zero-more at (filled-take body 0 xs m (omega arith) h) in
     let read : recordOf kind now ≡ recordOf kind (take m xs) = front now ∙ ap (recordOf kind) held in
     rw (le-ltb (length xs) m h, read)
-    (goes-on (k + 1) (act (k + 1) d (recordOf kind (take m xs))) (recordOn (k + 1) s (recordOf kind (take m xs)) b)
+    (goes-on (k + 1) (act (k + 1) d (recordOf kind (take m xs))) (performed (taskOf s (recordOf kind (take m xs))) b)
     s kind m now (drop m xs)
     (λ e. textFrom (k + 1) e (itemsBy n (drop m xs)))
     (acts-agree (k + 1) s b d (recordOf kind (take m xs)) stands (record-lawful kind (take m xs) (take-bytes m xs small)))
     (λ t c book st.
-    follows t kind m now (k + 1) c (opened book) (drop m xs) (omega (arith, length-drop m xs)) st
+    follows t kind m now (k + 1) c (openWith book) (drop m xs) (omega (arith, length-drop m xs)) st
     (filled-length body 0 xs m ∙ long)
     (omega (arith, length-drop m xs))
     (drop-bytes m xs small))))
@@ -80,12 +85,11 @@ known-kind n follows m few kind front s body k b d xs short stands long fits sma
 -- a byte of kind
 kind-fed : (s : Stage) → endedAt s ≡ false → (kind whole : ℕ) (body : List ℕ) (k x : ℕ) (b : Buffers) → k < 2 ^ 64 - 1
     → feedOf (machine s kind whole whole body k) x b ≡ fedTaken (begunBy (bodyLength x) (machine s x whole whole body (k + 1))) b
-unfolding takenOf begunOf
-kind-fed s live kind whole body k x b h =
-    fed-live (machine s kind whole whole body k) x b live ∙ rw (le-ltb whole whole (omega arith), lt-ltb k (2 ^ 64 - 1) h)
+unfolding feedOf takenOf begunOf
+kind-fed s live kind whole body k x b h = rw (live, le-ltb whole whole (omega arith), lt-ltb k (2 ^ 64 - 1) h)
 
-module _ (n : ℕ) (follows : Follows n) (s : Stage) (whole : ℕ) (body : List ℕ) (k : ℕ) (b : Buffers) (d : Desk) (xs : List ℕ)
-    (short : length xs < n) (stands : Stands s b d) (long : length body ≡ longestBody)
+module _ (n : ℕ) (follows : Follows n) (s : Stage) (whole : ℕ) (body : List ℕ) (k : ℕ) (b : Buffers) (d : CurrentBook)
+    (xs : List ℕ) (short : length xs < n) (stands : Stands s b d) (long : length body ≡ longestBody)
     (fits : k + 1 + length xs < 2 ^ 64) (small : AllBytes xs) where
   -- what is to be shown of the byte of kind x
   abbrev Kinded : ℕ → Type 0
@@ -94,7 +98,7 @@ module _ (n : ℕ) (follows : Follows n) (s : Stage) (whole : ℕ) (body : List 
       ≡ textFrom k d (withBody (bodyLength x) xs (λ l. next (recordOf x (take l xs)) (itemsBy n (drop l xs))))
 
   no-kind : (x : ℕ) → bodyLength x ≡ NoKind → Kinded x
-  unfolding begunBy textFrom fedBy
+  unfolding begunBy textFrom performed replyText
   no-kind x e = rw (e, run-ended x whole whole body (k + 1) b xs) (append-nil (stopText (k + 1) Kind))
 
   kinds : (x : ℕ) → Kinded x
@@ -143,6 +147,5 @@ end-to-end input h =
     let bytes = codes input in
     let long : length bytes ≡ length input = length-map input (λ (b : Byte). b .code) in
     machine-text-run bytes
-    ∙ follows-all (suc (length bytes)) Closed 0 0 (zeros longestBody) 0 zeroed closed bytes (omega arith) (at-closed zeroed-sized)
-    (zeros-long longestBody)
-    (omega arith) (codes-bytes input)
+    ∙ follows-all (suc (length bytes)) Closed 0 0 (zeros longestBody) 0 zeroed notOpen bytes (omega arith)
+    (at-closed zeroed-sized) (zeros-long longestBody) (omega arith) (codes-bytes input)

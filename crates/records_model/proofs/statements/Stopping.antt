@@ -22,12 +22,13 @@ use Rattle.plate_model.specs.Notebook.{Book, openBook}
 use Rattle.plate_model.proofs.checks.Rows.{by-check}
 use Rattle.plate_model.proofs.checks.Conditions.{sizes-checks}
 use Rattle.records_model.specs.Fixed.{cellsTop, logRoom, openBody, putBody}
-use Rattle.records_model.specs.Record.{Record, Open, Undo, Show, Stop, Sizes, Kind, Body, Order, Cells, Bytes, NoKind, bodyLength, putRecord, recordOf, itemsBy}
-use Rattle.records_model.specs.Run.{Desk, closed, opened, stop, go, opens, act, stopText, textFrom}
+use Rattle.records_model.specs.Record.{Record, Open, Undo, Show, Stop, Sizes, Kind, Body, Order, Cells, Bytes, NoKind}
+use Rattle.records_model.specs.Record.{bodyLength, putRecord, recordOf, itemsBy}
+use Rattle.records_model.specs.Run.{CurrentBook, notOpen, openWith, stop, go, opens, act, stopText, textFrom}
 use Rattle.records_model.specs.Stops.{KindUnknown, BodyShort, OutOfOrder, openSize, recordRows, GoesOnAfter, StopsByRows}
 use Rattle.records_model.proofs.reading.Bodies.{front-open}
 
-module _ (k n : ℕ) (d : Desk) (kind : ℕ) (rest : List ℕ) where
+module _ (k n : ℕ) (d : CurrentBook) (kind : ℕ) (rest : List ℕ) where
   abbrev met : List ℕ
   met = textFrom k d (itemsBy (suc n) (kind ∷ rest))
 
@@ -70,17 +71,17 @@ body-whole kind rest a b = ⊎-elim (λ p. omega (arith, a (p .0), p .1)) (λ p.
 -- PUT, whether its byte names a shape or not
 put-stops : (k n : ℕ) (rest : List ℕ) → putBody ≤ length rest → (s : ShapeRead)
     → recordOf 2 (take putBody rest) ≡ putRecord s (take putBody rest)
-    → textFrom k closed (itemsBy (suc n) (2 ∷ rest)) ≡ stopText (k + 1) Order
+    → textFrom k notOpen (itemsBy (suc n) (2 ∷ rest)) ≡ stopText (k + 1) Order
 unfolding act
-put-stops k n rest whole Unknown read = act-stops k n closed 2 rest putBody refl whole _ read Order refl
-put-stops k n rest whole (Known s) read = act-stops k n closed 2 rest putBody refl whole _ read Order refl
+put-stops k n rest whole Unknown read = act-stops k n notOpen 2 rest putBody refl whole _ read Order refl
+put-stops k n rest whole (Known s) read = act-stops k n notOpen 2 rest putBody refl whole _ read Order refl
 
 put-goes : (k n : ℕ) (b : Book) (rest : List ℕ) → putBody ≤ length rest → (s : ShapeRead)
     → recordOf 2 (take putBody rest) ≡ putRecord s (take putBody rest)
-    → GoesOnAfter k n (opened b) 2 rest
+    → GoesOnAfter k n (openWith b) 2 rest
 unfolding act
-put-goes k n b rest whole Unknown read = act-goes k n (opened b) 2 rest putBody refl whole _ read _ _ refl
-put-goes k n b rest whole (Known s) read = act-goes k n (opened b) 2 rest putBody refl whole _ read _ _ refl
+put-goes k n b rest whole Unknown read = act-goes k n (openWith b) 2 rest putBody refl whole _ read _ _ refl
+put-goes k n b rest whole (Known s) read = act-goes k n (openWith b) 2 rest putBody refl whole _ read _ _ refl
 
 -- what is read of its shape
 abbrev shapeRead : List ℕ → ShapeRead
@@ -95,7 +96,7 @@ open-read : (rest : List ℕ) → recordOf 1 (take openBody rest) ≡ Open (open
 unfolding recordOf
 open-read rest = sym (front-open rest)
 
--- what an open of a closed desk does, by its sizes and its cells
+-- what an open does where no plate is open, by its sizes and its cells
 opens-stop : (z : Size) → ((next : Outcome) → sizesCheck z next ≡ Refused BadSizes) → opens z ≡ stop Sizes
 unfolding opens
 opens-stop z bad = rw (bad Accepted)
@@ -108,23 +109,24 @@ opens-go : (z : Size) → ((next : Outcome) → sizesCheck z next ≡ next) → 
 unfolding opens
 opens-go z fine h = rw (fine Accepted, le-ltb cellsTop (padded z) h)
 
--- BY THE DESK
-abbrev Stopped : ℕ → ℕ → Desk → ℕ → List ℕ → Type 0
+-- BY THE CURRENT NOTEBOOK
+abbrev Stopped : ℕ → ℕ → CurrentBook → ℕ → List ℕ → Type 0
 Stopped k n d kind rest =
     FirstOf (λ s. textFrom k d (itemsBy (suc n) (kind ∷ rest)) ≡ stopText (k + 1) s) (GoesOnAfter k n d kind rest)
     (recordRows d kind rest)
 
 -- an unknown kind, and a body that is cut short
-by-kind : (k n : ℕ) (d : Desk) (kind : ℕ) (rest : List ℕ) → KindUnknown kind → bodyLength kind ≡ NoKind → Stopped k n d kind rest
+by-kind : (k n : ℕ) (d : CurrentBook) (kind : ℕ) (rest : List ℕ) → KindUnknown kind → bodyLength kind ≡ NoKind
+    → Stopped k n d kind rest
 unfolding FirstOf
 by-kind k n d kind rest h e = inl (h, unknown-stops k n d kind rest e)
 
-by-body : (k n : ℕ) (d : Desk) (kind : ℕ) (rest : List ℕ) (m : ℕ) → ¬ (KindUnknown kind) → bodyLength kind ≡ Bytes m
+by-body : (k n : ℕ) (d : CurrentBook) (kind : ℕ) (rest : List ℕ) (m : ℕ) → ¬ (KindUnknown kind) → bodyLength kind ≡ Bytes m
     → BodyShort kind rest → length rest < m → Stopped k n d kind rest
 unfolding FirstOf
 by-body k n d kind rest m known e short h = inr (known, inl (short, short-stops k n d kind rest m e h))
 
-open-closed : (k n : ℕ) (rest : List ℕ) → openBody ≤ length rest → Stopped k n closed 1 rest
+open-closed : (k n : ℕ) (rest : List ℕ) → openBody ≤ length rest → Stopped k n notOpen 1 rest
 unfolding FirstOf OutOfOrder act
 open-closed k n rest whole =
     let z = openSize rest in
@@ -138,7 +140,7 @@ open-closed k n rest whole =
         inr (
           (λ no. no refl),
           inl
-              ((refl, outside), act-stops k n closed 1 rest openBody refl whole _ (open-read rest) Sizes (opens-stop z bad)),
+              ((refl, outside), act-stops k n notOpen 1 rest openBody refl whole _ (open-read rest) Sizes (opens-stop z bad)),
         ),
       ),
     ))
@@ -154,7 +156,7 @@ open-closed k n rest whole =
           inr (
             inside,
             inl
-                ((refl, h), act-stops k n closed 1 rest openBody refl whole _ (open-read rest) Cells (opens-full z fine h)),
+                ((refl, h), act-stops k n notOpen 1 rest openBody refl whole _ (open-read rest) Cells (opens-full z fine h)),
           ),
         ),
       ),
@@ -169,7 +171,7 @@ open-closed k n rest whole =
             inside,
             inr (
               (λ p. omega (arith, p .1)),
-              act-goes k n closed 1 rest openBody refl whole _ (open-read rest) _ _ (opens-go z fine h),
+              act-goes k n notOpen 1 rest openBody refl whole _ (open-read rest) _ _ (opens-go z fine h),
             ),
           ),
         ),
@@ -177,14 +179,15 @@ open-closed k n rest whole =
     )))
 
 -- out of order
-by-order : (k n : ℕ) (d : Desk) (kind : ℕ) (rest : List ℕ) → ¬ (KindUnknown kind) → ¬ (BodyShort kind rest) → OutOfOrder d kind
+by-order : (k n : ℕ) (d : CurrentBook) (kind : ℕ) (rest : List ℕ) → ¬ (KindUnknown kind) → ¬ (BodyShort kind rest)
+    → OutOfOrder d kind
     → textFrom k d (itemsBy (suc n) (kind ∷ rest)) ≡ stopText (k + 1) Order → Stopped k n d kind rest
 unfolding FirstOf
 by-order k n d kind rest known long order e = inr (known, inr (long, inl (order, e)))
 
--- nothing that stops the run: a put, an undo or a show on an open desk
+-- nothing that stops the run: a put, an undo or a show on an open plate
 by-none : (k n : ℕ) (b : Book) (kind : ℕ) (rest : List ℕ) → 2 ≤ kind → kind ≤ 4 → ¬ (BodyShort kind rest)
-    → GoesOnAfter k n (opened b) kind rest → Stopped k n (opened b) kind rest
+    → GoesOnAfter k n (openWith b) kind rest → Stopped k n (openWith b) kind rest
 unfolding FirstOf OutOfOrder
 by-none k n b kind rest low high long goes =
     inr (
@@ -206,40 +209,40 @@ by-none k n b kind rest low high long goes =
 pub stops-by-rows : StopsByRows
 unfolding BodyShort OutOfOrder act recordOf
 stops-by-rows k n d zero rest = by-kind k n d 0 rest (inl (omega arith)) refl
-stops-by-rows k n closed (suc zero) rest =
+stops-by-rows k n notOpen (suc zero) rest =
     by-lt (length rest) openBody
-    (λ h. by-body k n closed 1 rest openBody (kind-known 1 (omega arith) (omega arith)) refl (inl (refl, h)) h)
+    (λ h. by-body k n notOpen 1 rest openBody (kind-known 1 (omega arith) (omega arith)) refl (inl (refl, h)) h)
     (λ h. open-closed k n rest h)
-stops-by-rows k n (opened b) (suc zero) rest =
+stops-by-rows k n (openWith b) (suc zero) rest =
     let known = kind-known 1 (omega arith) (omega arith) in
     by-lt (length rest) openBody
-    (λ h. by-body k n (opened b) 1 rest openBody known refl (inl (refl, h)) h)
-    (λ h. by-order k n (opened b) 1 rest known (body-whole 1 rest (λ _. h) (λ e. absurd (omega arith))) refl
-    (act-stops k n (opened b) 1 rest openBody refl h _ (open-read rest) Order refl))
-stops-by-rows k n closed (suc (suc zero)) rest =
+    (λ h. by-body k n (openWith b) 1 rest openBody known refl (inl (refl, h)) h)
+    (λ h. by-order k n (openWith b) 1 rest known (body-whole 1 rest (λ _. h) (λ e. absurd (omega arith))) refl
+    (act-stops k n (openWith b) 1 rest openBody refl h _ (open-read rest) Order refl))
+stops-by-rows k n notOpen (suc (suc zero)) rest =
     let known = kind-known 2 (omega arith) (omega arith) in
     by-lt (length rest) putBody
-    (λ h. by-body k n closed 2 rest putBody known refl (inr (refl, h)) h)
-    (λ h. by-order k n closed 2 rest known (body-whole 2 rest (λ e. absurd (omega arith)) (λ _. h)) (λ e. omega arith)
+    (λ h. by-body k n notOpen 2 rest putBody known refl (inr (refl, h)) h)
+    (λ h. by-order k n notOpen 2 rest known (body-whole 2 rest (λ e. absurd (omega arith)) (λ _. h)) (λ e. omega arith)
     (put-stops k n rest h (shapeRead rest) (put-read rest)))
-stops-by-rows k n (opened b) (suc (suc zero)) rest =
+stops-by-rows k n (openWith b) (suc (suc zero)) rest =
     by-lt (length rest) putBody
-    (λ h. by-body k n (opened b) 2 rest putBody (kind-known 2 (omega arith) (omega arith)) refl (inr (refl, h)) h)
+    (λ h. by-body k n (openWith b) 2 rest putBody (kind-known 2 (omega arith) (omega arith)) refl (inr (refl, h)) h)
     (λ h. by-none k n b 2 rest (omega arith) (omega arith) (body-whole 2 rest (λ e. absurd (omega arith)) (λ _. h))
     (put-goes k n b rest h (shapeRead rest) (put-read rest)))
-stops-by-rows k n closed (suc (suc (suc zero))) rest =
-    by-order k n closed 3 rest (kind-known 3 (omega arith) (omega arith))
+stops-by-rows k n notOpen (suc (suc (suc zero))) rest =
+    by-order k n notOpen 3 rest (kind-known 3 (omega arith) (omega arith))
     (body-whole 3 rest (λ e. absurd (omega arith)) (λ e. absurd (omega arith))) (λ e. omega arith)
-    (act-stops k n closed 3 rest 0 refl (omega arith) Undo refl Order refl)
-stops-by-rows k n (opened b) (suc (suc (suc zero))) rest =
+    (act-stops k n notOpen 3 rest 0 refl (omega arith) Undo refl Order refl)
+stops-by-rows k n (openWith b) (suc (suc (suc zero))) rest =
     by-none k n b 3 rest (omega arith) (omega arith) (body-whole 3 rest (λ e. absurd (omega arith)) (λ e. absurd (omega arith)))
-    (act-goes k n (opened b) 3 rest 0 refl (omega arith) Undo refl _ _ refl)
-stops-by-rows k n closed (suc (suc (suc (suc zero)))) rest =
-    by-order k n closed 4 rest (kind-known 4 (omega arith) (omega arith))
+    (act-goes k n (openWith b) 3 rest 0 refl (omega arith) Undo refl _ _ refl)
+stops-by-rows k n notOpen (suc (suc (suc (suc zero)))) rest =
+    by-order k n notOpen 4 rest (kind-known 4 (omega arith) (omega arith))
     (body-whole 4 rest (λ e. absurd (omega arith)) (λ e. absurd (omega arith))) (λ e. omega arith)
-    (act-stops k n closed 4 rest 0 refl (omega arith) Show refl Order refl)
-stops-by-rows k n (opened b) (suc (suc (suc (suc zero)))) rest =
+    (act-stops k n notOpen 4 rest 0 refl (omega arith) Show refl Order refl)
+stops-by-rows k n (openWith b) (suc (suc (suc (suc zero)))) rest =
     by-none k n b 4 rest (omega arith) (omega arith) (body-whole 4 rest (λ e. absurd (omega arith)) (λ e. absurd (omega arith)))
-    (act-goes k n (opened b) 4 rest 0 refl (omega arith) Show refl _ _ refl)
+    (act-goes k n (openWith b) 4 rest 0 refl (omega arith) Show refl _ _ refl)
 stops-by-rows k n d (suc (suc (suc (suc (suc kind))))) rest =
     by-kind k n d (suc (suc (suc (suc (suc kind))))) rest (inr (omega arith)) refl

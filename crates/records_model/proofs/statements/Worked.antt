@@ -41,7 +41,10 @@ printed =
     []
 
 pub worked-text : paperText (codes input) ≡ printed
-unfolding paperText textFrom act opens itemsOf itemsBy recordOf sizesCheck refuseIf bookPut bookPutBy bookUndo bookUndoOf bookShowBy askCheck placeCheck shapeCheck radiusCheck reportText answerText pictureText showText headLine rowsText rowText cellText doneLine decimal digitsBy plainValues plainMattes plainSum listTo weight shareFor restFor area tap sum within same shownValue shownMatte nearest nearestEven
+unfolding paperText textFrom act opens itemsOf itemsBy recordOf sizesCheck refuseIf bookPut bookPutBy
+    bookUndo bookUndoOf bookShowBy askCheck placeCheck shapeCheck radiusCheck reportText answerText
+    pictureText showText headLine rowsText rowText cellText doneLine decimal digitsBy plainValues plainMattes plainSum listTo
+    weight shareFor restFor area tap sum within same shownValue shownMatte nearest nearestEven
 worked-text = refl
 
 -- so the machine writes it too

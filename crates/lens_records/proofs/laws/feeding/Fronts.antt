@@ -34,7 +34,8 @@ pub fed-on : (m : Machine) (b : Buffers) (input : List ℕ) (i n : ℕ) (now nex
     → FedTo m b (take (i + n) input) next kept
 fed-on m b input i n now next held kept p q =
     let more = fed-more m b (take i input) (take n (drop i input)) now next held kept p q in
-    let front : feedAll (feedAll (fed m b []) (take i input)) (take n (drop i input)) ≡ feedAll (fed m b []) (take (i + n) input) =
+    let front : feedAll (feedAll (fed m b []) (take i input)) (take n (drop i input))
+    ≡ feedAll (fed m b []) (take (i + n) input) =
     rw (take-add i n input) (sym (fed-both (fed m b []) (take i input) (take n (drop i input)))) in
     record {
       machine-is = more .0 ∙ ap (λ (f : Progress). f .machine) front;

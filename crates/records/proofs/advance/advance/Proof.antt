@@ -3,30 +3,29 @@ use Prim.Native.Nat.{_-_, _≤_}
 use native.Mathlib.Omega.{arith}
 use lib.ListN.{length}
 use mathlib.Core.Path.{_≡_, refl}
-use Rattle.records_model.specs.Fixed.{bufferRoom}
 use Rattle.records_model.specs.Machine.{buffers}
-use Rattle.records.proofs.laws.answering.Reached.{Reached, reached-start, reached-next, reached-full, reached-end}
+use Rattle.records.proofs.laws.calls.Reached.{Reached, consumed-is, reached-start, reached-next, reached-full, reached-end}
 use borrow.Author.Needs.{needs}
 use Rattle.records.proofs.advance.advance.Statement.{statement}
 use Rattle.records.proofs.advance.advance.Tie as tie
 
 abbrev Inv-loop : tie.InvT-loop
-Inv-loop input planes₀ pixels₀ log₀ scratch₀ values₀ mattes₀ out₀ fed₀ i₀ i-end planes pixels log scratch values mattes out fed i =
+Inv-loop input planes₀ pixels₀ log₀ scratch₀ values₀ mattes₀ out₀ first _ _ planes pixels log scratch values mattes out now i =
     (i ≤ length input)
     × (length out ≡ length out₀)
-    × Reached (fed₀ .machine) (buffers planes₀ pixels₀ log₀ scratch₀ values₀ mattes₀) input out₀
-    (fed .machine) (buffers planes pixels log scratch values mattes) out i (fed .written)
+    × Reached (first .machine) (buffers planes₀ pixels₀ log₀ scratch₀ values₀ mattes₀) input out₀
+    now (buffers planes pixels log scratch values mattes) out i
 
 abbrev μ-loop : tie.MeasureT-loop
-μ-loop input planes₀ pixels₀ log₀ scratch₀ values₀ mattes₀ out₀ fed₀ i₀ i-end planes pixels log scratch values mattes out fed i =
+μ-loop input planes₀ pixels₀ log₀ scratch₀ values₀ mattes₀ out₀ first _ _ planes pixels log scratch values mattes out now i =
     length input - i
 
 -- where the test lets a byte in, and where there is room for its text
-abbrev inside : tie.After-step Inv-loop μ-loop → tie.In-loop Inv-loop μ-loop
-inside c = c .before .before .before .before .before .before .before .before .before .before .before
+abbrev roomy : tie.After-feed-arg7 Inv-loop μ-loop → tie.Else1 Inv-loop μ-loop
+roomy c = c .before .before .before .before .before .before .before .before
 
-abbrev before-step : tie.After-step Inv-loop μ-loop → tie.Else1 Inv-loop μ-loop
-before-step c = c .before .before .before .before .before .before .before .before .before
+abbrev inside : tie.Else1 Inv-loop μ-loop → tie.In-loop Inv-loop μ-loop
+inside c = c .before .before
 
 loop-holds : tie.Need-loop-holds Inv-loop μ-loop
 loop-holds c =
@@ -34,31 +33,37 @@ loop-holds c =
     (omega arith, refl, reached-start (a .m) _ (a .input .now) (a .out .now))
 
 returns : tie.Need-returns Inv-loop μ-loop
-returns c =
-    let h = c .before .before .before in
-    rw (c .left .ensures) (reached-full (h .before .loop .inv .2) (c .before .if1 .taken))
+returns c = reached-full (c .before .before .before .loop .inv .2) (c .if1 .taken)
 
-add-at : tie.Need-add-at Inv-loop μ-loop
-add-at c = omega (arith, inside c .loop-test .taken, inside c .before .before .before .good)
+feed-requires : tie.Need-feed-requires Inv-loop μ-loop
+feed-requires c κs =
+    let room = roomy c in
+    let h = inside room in
+    record {
+      counted = omega (arith, consumed-is (h .before .loop .inv .2), h .loop-test .taken, h .before .before .before .good);
+      fits = omega (arith, room .if1 .left, c .feed-arg7 .given .0);
+    }
+
+add-i : tie.Need-add-i Inv-loop μ-loop
+add-i c = let h = inside (roomy (c .before)) in omega (arith, h .loop-test .taken, h .before .before .before .good)
 
 loop-again : tie.Need-loop-again Inv-loop μ-loop
 loop-again c =
-    let h = inside c in
+    let room = roomy (c .before) in
+    let h = inside room in
     let l = h .before .loop in
-    let room = before-step c in
-    let long : length (l .out) ≡ bufferRoom = omega (arith, c .before .step-arg7 .given .0) in (
+    let long = c .before .feed-arg7 .given .0 in
+    let same = c .feed .kept .1 .1 .1 .1 .1 .1 .1 .1 .0 in (
       omega (arith, h .loop-test .taken),
-      omega (arith, l .inv .1, c .step .kept .1 .1 .1 .1 .1 .1 .1 .1 .0),
-      reached-next (l .inv .2) _ _ _ _ (c .step .ensures) (h .loop-test .taken) (room .if1 .left)
-          (omega (arith, room .if1 .left, l .inv .1))
+      omega (arith, l .inv .1, long, same),
+      reached-next (l .inv .2) (c .feed .ensures) (h .loop-test .taken) (room .if1 .left)
+          (omega (arith, l .inv .1, long))
           (l .inv .1)
-          (omega (arith, l .inv .1, c .step .kept .1 .1 .1 .1 .1 .1 .1 .1 .0)),
+          (omega (arith, l .inv .1, long, same)),
     )
 
 returns-2 : tie.Need-returns-2 Inv-loop μ-loop
-returns-2 c =
-    let h = c .before in
-    rw (c .left2 .ensures) (reached-end (h .before .loop .inv .2) (h .loop-test .left) (h .before .loop .inv .0))
+returns-2 c = reached-end (c .before .loop .inv .2) (c .loop-test .left) (c .before .loop .inv .0)
 
 pub advance-spec : {M : Type 1} → statement M
 advance-spec =
@@ -67,12 +72,10 @@ advance-spec =
     Inv-loop
     μ-loop
     loop-holds
-    (λ c κs. search needs)
     returns
     (λ c. search needs)
-    (λ c κs. search needs)
-    add-at
+    feed-requires
+    add-i
     (λ c. search needs)
     loop-again
-    (λ c κs. search needs)
     returns-2)

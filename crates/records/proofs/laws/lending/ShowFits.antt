@@ -1,11 +1,16 @@
 -- A show that is accepted is of a plate that was lent its cells, so there is room for its text.
-use mathlib.Core.Path.{_≡_, refl, ap, sym, _∙_}
+use mathlib.Core.Path.{_≡_, refl, sym, _∙_}
 use mathlib.Core.List.{List}
-use Prim.Native.Nat.{ℕ, _+_, _*_, _≤_}
+use Prim.Native.Nat.{ℕ, zero, suc, _+_, _*_, _≤_}
 use native.Mathlib.Omega.{arith}
-use lib.ListN.{length}
+use borrow.Author.Tests.{ne-eqb}
+use lib.Dec.{eqb}
+use lib.ListN.{length, take}
+use lib.Seq.{length-take-le}
+use Rattle.kernels_model.specs.Choice.{pick}
 use Rattle.kernels_model.proofs.numbers.Choices.{by-lt}
 use Rattle.kernels_model.proofs.numbers.Products.{product-le}
+use Rattle.plate_model.specs.Fixed.{planesInAll, border}
 use Rattle.plate_model.specs.Layout.{wide, high, padded}
 use Rattle.plate_model.specs.declared.size.Size.{Size}
 use Rattle.plate_model.specs.declared.state.State.{State}
@@ -14,14 +19,23 @@ use Rattle.plate_model.specs.declared.state.Outcome.{Outcome}
 use Rattle.plate_model.specs.declared.state.Outcome.the-variants.{Accepted, Refused}
 use Rattle.plate_model.specs.Refusal.{outcomeNumber, showCheck}
 use Rattle.plate_model.specs.Lent.{Views}
-use Rattle.plate_model.specs.Calls.{Shown, shown, showBy, showCall}
+use Rattle.plate_model.specs.Calls.{showBy, showCall}
+use Rattle.plate_model.proofs.checks.Rows.{refusal-some}
 use Rattle.plate_model.proofs.checks.Passed.{sizes-passed, length-passed}
-use Rattle.records_model.specs.Machine.{planesOf}
-use Rattle.records_model.proofs.lending.Rooms.{no-room}
-use Rattle.records.proofs.laws.answering.Answers.{accepted-by}
-use Rattle.records_model.specs.Fixed.{cellsTop, textRoom}
-use Rattle.plate_model.specs.Fixed.{planesInAll, border}
-use Rattle.records.specs.Room.{lineRoom, rowsRoom}
+use Rattle.records_model.specs.Fixed.{cellsTop, planesRoom, textRoom}
+use Rattle.records_model.specs.declared.record.Stop.{Stop}
+use Rattle.records_model.specs.declared.effect.Stage.the-variants.{Opened}
+use Rattle.records_model.specs.declared.effect.Reply.{Reply}
+use Rattle.records_model.specs.declared.effect.Reply.the-variants.{Nothing, RefusedBy, Pictures}
+use Rattle.records_model.specs.declared.request.Request.{Request}
+use Rattle.records_model.specs.declared.request.Request.the-variants.{ToOpen, ToPut, ToUndo}
+use Rattle.records_model.specs.Machine.{planeCells, viewsFront, showRequested, effect, stopping, goingOn, opening, answered}
+use Rattle.records_model.proofs.lending.Rooms.{no-room, cells-within}
+use Rattle.records.specs.Room.{lineRoom, rowsRoom, FewCells}
+
+accepted-by : (o : Outcome) → outcomeNumber o ≡ 0 → o ≡ Accepted
+accepted-by Accepted e = refl
+accepted-by (Refused f) e = absurd (omega (arith, refusal-some f))
 
 outcome-is : (o : Outcome) (s : State) (planes : List ℕ) (v : Views) → showBy o s planes v .answer .outcome ≡ o
 unfolding showBy
@@ -38,14 +52,36 @@ lent-cells s planes v e =
     let lengths = sizes-passed (s .size) _ yes .1 in
     length-passed (length planes) (planesInAll * padded (s .size)) _ lengths .0
 
-pub few-shown : (s : State) (planes : List ℕ) (v : Views) {scratch values mattes : List ℕ} (r : Answer)
-    → shown r scratch values mattes ≡ showCall s planes v → length planes ≡ planesOf (s .size) → outcomeNumber (r .outcome) ≡ 0
-    → padded (s .size) ≤ cellsTop
-few-shown s planes v r e long accepted =
+few-shown : (s : State) (planes : List ℕ) (v : Views) → length planes ≡ planeCells (s .size)
+    → outcomeNumber (showCall s planes v .answer .outcome) ≡ 0 → padded (s .size) ≤ cellsTop
+few-shown s planes v long accepted =
     let z = s .size in
-    let cells = lent-cells s planes v (ap (λ (w : Shown). outcomeNumber (w .answer .outcome)) (sym e) ∙ accepted) in
+    let cells = lent-cells s planes v accepted in
     let some = product-le 1 1 (wide z) (high z) (omega arith) (omega arith) in
     by-lt cellsTop (padded z) (λ h. absurd (omega (arith, no-room z (padded z) h))) (λ h. h)
+
+-- so a reply with pictures has few cells
+few-if : (n : ℕ) (r : Reply) → (n ≡ 0 → FewCells r) → FewCells (pick (eqb n 0) r (RefusedBy n))
+few-if zero r h = h refl
+few-if (suc n) r h = rw (ne-eqb (suc n) 0 (λ e. omega arith)) tt
+
+few-opened : (n : ℕ) (s : State) (why : Stop) → FewCells (pick (eqb n 0) (effect (Opened s) Nothing) (stopping why) .reply)
+few-opened zero s why = tt
+few-opened (suc n) s why = rw (ne-eqb (suc n) 0 (λ e. omega arith)) tt
+
+pub few-answered : (q : Request) (a : Answer) → FewCells (answered q a .reply)
+unfolding answered opening goingOn
+few-answered (ToOpen z) a = few-opened (outcomeNumber (a .outcome)) (a .state) _
+few-answered (ToPut p) a = few-if (outcomeNumber (a .outcome)) Nothing (λ _. tt)
+few-answered (ToUndo s) a = few-if (outcomeNumber (a .outcome)) Nothing (λ _. tt)
+
+pub few-pictures : (s : State) (planes : List ℕ) (v : Views) → length planes ≡ planesRoom
+    → FewCells (goingOn (Pictures (s .size)) (showRequested s planes v .answer) .reply)
+unfolding showRequested goingOn
+few-pictures s planes v long =
+    let z = s .size in
+    let cells = length-take-le (planeCells z) planes (omega (arith, cells-within z)) in
+    few-if _ (Pictures z) (few-shown s (take (planeCells z) planes) (viewsFront z v) cells)
 
 -- so few cells have few places
 pub text-fits : (z : Size) → padded z ≤ cellsTop → lineRoom + rowsRoom (z .width) (z .height) ≤ textRoom

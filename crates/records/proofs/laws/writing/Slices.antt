@@ -1,12 +1,12 @@
 -- Laws of text written over a slice: one text after another is both at once, and what is written fits.
 use mathlib.Core.Path.{_≡_, ap, sym, _∙_}
 use mathlib.Core.List.{List, [], _∷_, _++_, append-assoc, append-nil}
-use Prim.Native.Nat.{ℕ, _+_, _-_, _≤_, _<_}
+use Prim.Native.Nat.{ℕ, _+_, _≤_, _<_}
 use native.Mathlib.Nat.{add-zero}
 use native.Mathlib.Numerals.{add-one}
 use native.Mathlib.Omega.{arith}
 use lib.ListN.{length, take, drop, set, getD, length-append, length-drop, take-append-drop}
-use lib.Seq.{length-take-le, take-all, take-at, take-suc, drop-at, drop-drop, drop-length, set-split}
+use lib.Seq.{length-take-le, take-at, take-suc, drop-at, drop-drop, set-split}
 use Rattle.records_model.specs.Text.{withText}
 use Rattle.records.specs.Written.{Wrote}
 
@@ -25,7 +25,8 @@ written-length s at t h =
     (omega arith)
 
 -- where the slice keeps its length, the text has fitted
-pub written-fits : (s : List ℕ) (at : ℕ) (t : List ℕ) → at ≤ length s → length (withText s at t) ≡ length s → at + length t ≤ length s
+pub written-fits : (s : List ℕ) (at : ℕ) (t : List ℕ) → at ≤ length s → length (withText s at t) ≡ length s
+    → at + length t ≤ length s
 unfolding withText
 written-fits s at t h e =
     let whole = length-append (take at s ++ t) (drop (at + length t) s) in
@@ -58,25 +59,6 @@ written-two s at a b h =
       append-assoc (take at s) a b,
     )
     (ap (λ (n : ℕ). take at s ++ (a ++ b) ++ drop n s) sum)
-
--- written at the start of the rest of the slice, which is lent and comes back
-pub written-rest : (s : List ℕ) (at : ℕ) (t : List ℕ) → at ≤ length s
-    → take at s ++ (withText (take (length s - at) (drop at s)) 0 t ++ drop (length s - at) (drop at s)) ≡ withText s at t
-unfolding withText
-written-rest s at t h =
-    let long = length-drop at s in
-    let whole : at + (length s - at) ≡ length s = omega arith in
-    let none : 0 + length t ≡ length t = omega arith in
-    rw (
-      take-all (length s - at) (drop at s) (omega arith),
-      drop-drop (length s - at) at s,
-      whole,
-      drop-length s,
-      none,
-      drop-drop (length t) at s,
-      append-nil (t ++ drop (at + length t) s),
-    )
-    (sym (append-assoc (take at s) t (drop (at + length t) s)))
 
 pub wrote-nothing : (s : List ℕ) (at : ℕ) → at ≤ length s → Wrote s at [] s at
 wrote-nothing s at h = record { room = omega arith; slice-is = sym (written-none s at); next-is = omega arith }

@@ -14,7 +14,7 @@ returns : tie.Need-returns
 unfolding endText
 returns c =
     let m = start (c .before .before .before .before .before) .args .m in
-    rw (lt-ltb (m .held) (m .whole) (omega arith)) (c .before .before .stop .ensures .wrote)
+    rw (lt-ltb (m .held) (m .whole) (omega arith)) (c .before .before .stopped .ensures)
 
 returns-2 : tie.Need-returns-2
 unfolding endText

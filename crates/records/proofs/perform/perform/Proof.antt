@@ -1,68 +1,66 @@
--- By where the run stands.
-use mathlib.Core.Path.{refl}
-use Rattle.records_model.specs.declared.perform.Stage.the-variants.{Ended}
-use Rattle.records_model.specs.Machine.{Buffers, buffers, recordOn}
-use Rattle.records.proofs.laws.answering.Leaving.{done-is, says-nothing}
+-- Each task is its call, with what its answer comes to.
+use mathlib.Core.Path.{_≡_}
+use native.Mathlib.Omega.{arith}
+use lib.ListN.{length}
 use Rattle.plate_model.specs.Lent.{views}
+use Rattle.records_model.specs.Fixed.{planesRoom}
+use Rattle.records_model.specs.Machine.{performed}
+use Rattle.records.proofs.laws.lending.ShowFits.{few-answered, few-pictures}
 use borrow.Author.Needs.{needs}
 use Rattle.records.proofs.perform.perform.Statement.{statement}
 use Rattle.records.proofs.perform.perform.Tie as tie
 
--- where the call starts, and what the calls that it makes are made on
-abbrev start : tie.After-slice-known7 → tie.Start
-start c = c .before .before .before .before .before .before .before
-
-abbrev closed : tie.After-slice-known11 → tie.After-on-closed
-closed c = c .before .before .before .before .before .before .before .before
-
-abbrev opened : tie.After-slice-known18 → tie.After-on-open
-opened c = c .before .before .before .before .before .before .before .before .before .before .before .before .before .before
-
--- what it is lent
-abbrev held : tie.Start → Buffers
-held s =
-    let a = s .args in
-    buffers (a .planes .now) (a .pixels .now) (a .log .now) (a .scratch .now) (a .values .now) (a .mattes .now)
-
 returns : tie.Need-returns
-returns c =
-    let h = closed c in
-    let a = start (h .before .before .before .before .before .before .before) .args in
-    rw (h .before .before .before .before .before .enum-told .given .1)
-    (h .on-closed .ensures (views (a .scratch .now) (a .values .now) (a .mattes .now)))
+unfolding performed
+returns c = record { done = rw (c .before .task .given .1); few-cells = tt }
 
 returns-2 : tie.Need-returns-2
+unfolding performed
 returns-2 c =
-    let h = opened c in
-    rw (h .before .before .before .before .before .before .before .before .before .stage .given .1) (h .on-open .ensures)
+    record {
+      done = rw (c .before .before .task2 .given .1, c .stopping .ensures);
+      few-cells = rw (c .stopping .ensures) tt;
+    }
 
 returns-3 : tie.Need-returns-3
-unfolding recordOn
+unfolding performed
 returns-3 c =
-    let s = start (c .before .before) in
-    rw (c .enum-told2 .given .1)
-    (done-is _ (record { stage = Ended; written = 0 }) {b = held s} (says-nothing Ended (s .args .out .now)) refl)
+    let call = c .before in
+    let given = call .before .before .before .before .before .task3 .given in
+    record {
+      done = rw (given .1, ← call .call-on-front .ensures, c .answered .ensures);
+      few-cells = rw (c .answered .ensures) (few-answered (given .0 .0) (call .call-on-front .result));
+    }
+
+returns-4 : tie.Need-returns-4
+unfolding performed
+returns-4 c =
+    let show = c .before in
+    let lent = show .before .before .before .before in
+    let told = lent .before .before .before .before in
+    let a = told .before .before .args in
+    let given = told .task4 .given in
+    let long : length (a .planes .now) ≡ planesRoom = omega (arith, lent .show-on-front-arg2 .given .0) in
+    let few = few-pictures (given .0 .0) (a .planes .now) (views (a .scratch .now) (a .values .now) (a .mattes .now)) long in
+    record {
+      done = rw (given .1, ← show .show-on-front .ensures, c .going-on .ensures);
+      few-cells = rw (c .going-on .ensures) (rw (← show .show-on-front .ensures) at few);
+    }
 
 pub perform-spec : {M : Type 1} → statement M
 perform-spec =
     tie.close
     (tie.spec
     (λ c. search needs)
-    (λ c κs. search needs)
     (λ c. search needs)
     (λ c κs. search needs)
     (λ c. search needs)
+    (λ c κs. search needs)
+    (λ c κs. search needs)
     (λ c. search needs)
-    (λ c. search needs)
-    (λ c. search needs)
-    (λ c. search needs)
+    (λ c κs. search needs)
+    (λ c κs. search needs)
     returns
-    (λ c. search needs)
-    (λ c. search needs)
-    (λ c. search needs)
-    (λ c. search needs)
-    (λ c. search needs)
-    (λ c. search needs)
-    (λ c. search needs)
     returns-2
-    returns-3)
+    returns-3
+    returns-4)

@@ -16,7 +16,7 @@ returns-2 : tie.Need-returns-2
 unfolding recordOf
 returns-2 c =
     let kind = c .before .before .before .args .kind in
-    rw (ne-eqb kind 1 (omega arith), eq-eqb kind 2 (omega arith), c .read-put .ensures)
+    rw (ne-eqb kind 1 (omega arith), eq-eqb kind 2 (omega arith), c .put-record .ensures)
 
 returns-3 : tie.Need-returns-3
 unfolding recordOf

@@ -20,7 +20,9 @@ returns c = let h = opens c in rw (h .before .before .before .before .before .re
 
 returns-2 : tie.Need-returns-2
 unfolding requestCall
-returns-2 c = let h = puts c in rw (h .before .before .before .before .before .before .before .request2 .given .1) (h .put .ensures)
+returns-2 c =
+    let h = puts c in
+    rw (h .before .before .before .before .before .before .before .request2 .given .1) (h .put .ensures)
 
 returns-3 : tie.Need-returns-3
 unfolding requestCall
