@@ -20,7 +20,7 @@ use records_model::record::Stop;
 use records_model::request::Request;
 use records_model::request::Task;
 ghost use mathlib.Core.Path.{_≡_};
-ghost use Rattle.plate_model.specs.Refusal.{outcomeNumber};
+ghost use Rattle.plate_model.specs.Refusal.{outcomeNumber, returned};
 ghost use Rattle.records_model.specs.declared.effect.Stage.the-variants.{Closed, Opened};
 ghost use Rattle.records_model.specs.Machine.{atEntry, atExit, stopping, goingOn, opening, answered, taskOf};
 ghost use Rattle.records.specs.Fed.{Performs};
@@ -44,7 +44,7 @@ fn stopping(why: Stop) -> Effect
 
 // A run that goes on: with this reply where its call is accepted.
 fn going_on(accepted: Reply, a: Answer) -> Effect
-    ensures { λ r. ⌜ r ≡ goingOn accepted a ⌝ }
+    ensures { λ r. ⌜ r ≡ goingOn accepted (returned a) ⌝ }
 {
     let outcome = a.outcome;
     let state = a.state;
@@ -63,7 +63,7 @@ fn going_on(accepted: Reply, a: Answer) -> Effect
 
 // An open: the plate refuses wrong sizes by 1, and one that it is lent no cells for by their lengths, which is 16.
 fn opening(a: Answer) -> Effect
-    ensures { λ r. ⌜ r ≡ opening a ⌝ }
+    ensures { λ r. ⌜ r ≡ opening (returned a) ⌝ }
 {
     let outcome = a.outcome;
     let state = a.state;
@@ -82,7 +82,7 @@ fn opening(a: Answer) -> Effect
 
 // What comes of the answer to a request.
 fn answered(request: Request, a: Answer) -> Effect
-    ensures { λ r. ⌜ r ≡ answered request a ⌝ }
+    ensures { λ r. ⌜ r ≡ answered request (returned a) ⌝ }
 {
     match request {
         Request::ToOpen(_) => opening(a),

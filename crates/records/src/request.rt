@@ -1,13 +1,13 @@
 // What a record asks of the plate. There is one path to it: the call is lent the front of planes and pixels.
 use plate::Answer;
+use plate::Ask;
+use plate::ShapeRead;
 use plate::Size;
 use plate::State;
 use plate_model::fixed::BORDER;
 use plate_model::fixed::PLANES;
 use plate_model::fixed::SCRATCH_PLANES;
-use plate_model::lent::Ask;
 use records_model::fixed::CELLS;
-use records_model::fixed::NO_SHAPE;
 use records_model::record::PlacedPixel;
 use records_model::record::Shapeless;
 use records_model::request::PutRequest;
@@ -58,7 +58,6 @@ pub(crate) fn put_request(state: State, put: PlacedPixel) -> Request
 {
     let pixel = put.pixel;
     let shape = pixel.shape;
-    let number = kernels::shape::number(shape);
     Request::ToPut(PutRequest {
         state: state,
         ask: Ask {
@@ -66,13 +65,13 @@ pub(crate) fn put_request(state: State, put: PlacedPixel) -> Request
             y: put.y,
             value: pixel.value,
             opacity: pixel.opacity,
-            shape: number,
+            shape: ShapeRead::Known(shape),
             radius: pixel.radius,
         },
     })
 }
 
-// A put of a record that names none: its number is above all shapes, so that the place and the value are looked at first.
+// A put of a record that names none: the place and the value are looked at first.
 pub(crate) fn shapeless_request(state: State, put: Shapeless) -> Request
     ensures { λ r. ⌜ r ≡ putRequest state (shapelessAsk put) ⌝ }
 {
@@ -83,7 +82,7 @@ pub(crate) fn shapeless_request(state: State, put: Shapeless) -> Request
             y: put.y,
             value: put.value,
             opacity: 0,
-            shape: NO_SHAPE,
+            shape: ShapeRead::Unknown,
             radius: 0,
         },
     })
@@ -116,18 +115,7 @@ fn call(request: Request, planes: &mut [u64], pixels: &mut [u64], log: &mut [u64
         Request::ToPut(put) => {
             let ask = put.ask;
             let state = put.state;
-            plate::put::put(
-                state,
-                ask.x,
-                ask.y,
-                ask.value,
-                ask.opacity,
-                ask.shape,
-                ask.radius,
-                planes,
-                pixels,
-                log,
-            )
+            plate::put::put_asked(state, ask, planes, pixels, log)
         }
         Request::ToUndo(state) => plate::undo::undo(state, planes, pixels, log),
     }

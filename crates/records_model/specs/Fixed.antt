@@ -1,6 +1,5 @@
 -- The record program's numbers of the paper, each named once. The code's names for them are in src/fixed.rt.
 use Prim.Native.Nat.{ℕ, _*_, _-_}
-use Rattle.kernels_model.specs.Fixed.{shapeCount}
 use Rattle.plate_model.specs.Fixed.{planesInAll, scratchPlanes}
 
 -- 16: "P above 512"
@@ -27,10 +26,6 @@ putBody = 9
 
 abbrev pub longestBody : ℕ
 longestBody = putBody
-
--- a number that names no shape, the first after them: 6, "shape above 5"
-abbrev pub noShape : ℕ
-noShape = shapeCount
 
 -- the bytes of a record's text: no record writes more
 abbrev pub textRoom : ℕ

@@ -12,8 +12,7 @@ use Rattle.plate_model.specs.Fixed.{planesInAll, scratchPlanes}
 use Rattle.plate_model.specs.declared.size.Size.{Size}
 use Rattle.plate_model.specs.Layout.{padded, places}
 use Rattle.plate_model.specs.declared.state.State.{State}
-use Rattle.plate_model.specs.declared.state.Answer.{Answer}
-use Rattle.plate_model.specs.Refusal.{outcomeNumber}
+use Rattle.plate_model.specs.Refusal.{Returned}
 use Rattle.plate_model.specs.declared.lent.Ask.{Ask}
 use Rattle.plate_model.specs.Lent.{Lent, lent, Views, views, Borrowed}
 use Rattle.plate_model.specs.Listed.{zeros}
@@ -118,7 +117,7 @@ requestCall (ToUndo s) l = undoCall s l
 unfoldable pub requested : Request → Lent → Left
 requested q l =
     let r = requestCall q (plateFront (requestSize q) l) in
-    record { answer = r .answer; kept = plateBack (requestSize q) (r .buffers) l }
+    record { answer = r .answer; buffers = plateBack (requestSize q) (r .buffers) l }
 
 -- so is a show, of planes, scratch and pictures
 unfoldable pub showRequested : State → List ℕ → Views → Shown
@@ -151,18 +150,15 @@ abbrev pub stopping : Stop → Effect
 stopping s = effect Ended (StoppedBy s)
 
 -- a run that goes on: with this reply where its call is accepted
-unfoldable pub goingOn : Reply → Answer → Effect
-goingOn accepted a =
-    let n = outcomeNumber (a .outcome) in
-    effect (Opened (a .state)) (pick (eqb n 0) accepted (RefusedBy n))
+unfoldable pub goingOn : Reply → Returned → Effect
+goingOn accepted a = effect (Opened (a .state)) (pick (eqb (a .number) 0) accepted (RefusedBy (a .number)))
 
 -- an open: refused by 1 it stops with 1, by another number with 16
-unfoldable pub opening : Answer → Effect
+unfoldable pub opening : Returned → Effect
 opening a =
-    let n = outcomeNumber (a .outcome) in
-    pick (eqb n 0) (effect (Opened (a .state)) Nothing) (stopping (pick (eqb n 1) Sizes Cells))
+    pick (eqb (a .number) 0) (effect (Opened (a .state)) Nothing) (stopping (pick (eqb (a .number) 1) Sizes Cells))
 
-unfoldable pub answered : Request → Answer → Effect
+unfoldable pub answered : Request → Returned → Effect
 answered (ToOpen z) a = opening a
 answered (ToPut p) a = goingOn Nothing a
 answered (ToUndo s) a = goingOn Nothing a
@@ -187,7 +183,8 @@ performed (ToStand s) b = did (effect s Nothing) b
 performed (ToStop s) b = did (stopping s) b
 performed (ToCall q) b =
     let l = requested q (lent (b .planes) (b .pixels) (b .log)) in
-    did (answered q (l .answer)) (buffers (l .buffers .planes) (l .buffers .pixels) (l .buffers .log) (b .scratch) (b .values) (b .mattes))
+    let p = l .buffers in
+    did (answered q (l .answer)) (buffers (p .planes) (p .pixels) (p .log) (b .scratch) (b .values) (b .mattes))
 performed (ToShow s) b =
     let v = showRequested s (b .planes) (views (b .scratch) (b .values) (b .mattes)) in
     did (goingOn (Pictures (s .size)) (v .answer))

@@ -6,11 +6,10 @@ use lib.ListN.{getD, length, take, drop}
 use Rattle.kernels_model.specs.Choice.{pick}
 use Rattle.kernels_model.specs.declared.shape.ShapeRead.{ShapeRead}
 use Rattle.kernels_model.specs.declared.shape.ShapeRead.the-variants.{Known, Unknown}
-use Rattle.kernels_model.specs.Shape.{numberOf, shapeOf}
+use Rattle.kernels_model.specs.Shape.{shapeOf}
 use Rattle.plate_model.specs.declared.lent.Ask.{Ask}
 use Rattle.plate_model.specs.Layout.{sizeFrom}
-use Rattle.plate_model.specs.Lent.{ask}
-use Rattle.records_model.specs.Fixed.{openBody, putBody, noShape}
+use Rattle.records_model.specs.Fixed.{openBody, putBody}
 pub use Rattle.records_model.specs.declared.record.Record.{Record}
 pub use Rattle.records_model.specs.declared.record.Record.the-variants.{Open, Put, NoShape, Undo, Show}
 pub use Rattle.records_model.specs.declared.record.PlacedPixel.{PlacedPixel}
@@ -59,11 +58,13 @@ recordOf kind body =
 
 -- what a put asks the plate for
 abbrev pub putAsk : PlacedPixel → Ask
-putAsk p = ask (p .x) (p .y) (p .pixel .value) (p .pixel .opacity) (numberOf (p .pixel .shape)) (p .pixel .radius)
+putAsk p =
+    let q = p .pixel in
+    record { x = p .x; y = p .y; value = q .value; opacity = q .opacity; shape = Known (q .shape); radius = q .radius }
 
--- without a shape it asks for a number that names none, so that 4 and 5 come before 6
+-- without a shape it asks for none, so that 4 and 5 come before 6
 abbrev pub shapelessAsk : Shapeless → Ask
-shapelessAsk p = ask (p .x) (p .y) (p .value) 0 noShape 0
+shapelessAsk p = record { x = p .x; y = p .y; value = p .value; opacity = 0; shape = Unknown; radius = 0 }
 
 -- an input as records one after the other, up to its end or to what stops the run
 pub data Items : Type 0 where

@@ -1,5 +1,4 @@
 // The record program's numbers of the paper, each named once, as in specs/Fixed.antt.
-use kernels_model::fixed::SHAPES;
 use plate_model::fixed::PLANES;
 use plate_model::fixed::SCRATCH_PLANES;
 
@@ -18,9 +17,6 @@ pub const OPEN_BODY: usize = 5;
 pub const PUT_BODY: usize = 9;
 
 pub const BODY: usize = PUT_BODY;
-
-// A number that names no shape: the first after them.
-pub const NO_SHAPE: u8 = SHAPES as u8;
 
 // The bytes of a record's text: no record writes more.
 pub const TEXT: usize = 4096;

@@ -80,7 +80,7 @@ module _ (k : ℕ) (z : Size) (b : Buffers) (s : RightLengths b) where
   open-fits fine h =
       let l = lentOf z b in
       let e = open-passes fine h in
-      let accepted : openCall z l .answer .outcome ≡ Accepted = unfold openCall openBy in (rw e) in
+      let accepted : openCall z l .answer .number ≡ 0 = unfold openCall openBy in (rw e) in
       let planes = zeros (length (l .planes)) in
       let grid = replicate (places z) empty in
       let mirrors : leftBy (openCall z l) ≡ mirror z logRoom planes grid [] = rw log-long at (open-mirror z l e) in
@@ -99,21 +99,21 @@ module _ (k : ℕ) (z : Size) (b : Buffers) (s : RightLengths b) where
 pub acts-agree : (k : ℕ) (s : Stage) (b : Buffers) (d : CurrentBook) (r : Record) → Stands s b d → LawfulRecord r
     → Agrees k (act k d r) (performed (taskOf s r) b)
 unfolding act taskOf performed requested requestCall answered replyText
-acts-agree k s b d (Open a) (at-closed lentLengths) h = open-agrees k _ b lentLengths
-acts-agree k s b d (Put p) (at-closed lentLengths) h = (refl, refl)
-acts-agree k s b d (NoShape p) (at-closed lentLengths) h = (refl, refl)
-acts-agree k s b d Undo (at-closed lentLengths) h = (refl, refl)
-acts-agree k s b d Show (at-closed lentLengths) h = (refl, refl)
-acts-agree k s b d (Open a) (at-open z planes grid pile lentLengths small kept e) h = (refl, refl)
-acts-agree k s b d (Put p) (at-open z planes grid pile lentLengths small kept e) h =
+acts-agree k s b d (Open a) (at-closed sizes) h = open-agrees k _ b sizes
+acts-agree k s b d (Put p) (at-closed sizes) h = (refl, refl)
+acts-agree k s b d (NoShape p) (at-closed sizes) h = (refl, refl)
+acts-agree k s b d Undo (at-closed sizes) h = (refl, refl)
+acts-agree k s b d Show (at-closed sizes) h = (refl, refl)
+acts-agree k s b d (Open a) (at-open z planes grid pile sizes small kept e) h = (refl, refl)
+acts-agree k s b d (Put p) (at-open z planes grid pile sizes small kept e) h =
     let left = putCall (stateOf z (length pile)) (putAsk p) (heldBy logRoom planes grid pile) in
-    rw e (answered-agrees k z b grid pile left _ small lentLengths (put-agrees z logRoom planes grid pile kept (putAsk p) h))
-acts-agree k s b d (NoShape p) (at-open z planes grid pile lentLengths small kept e) h =
+    rw e (answered-agrees k z b grid pile left _ small sizes (put-agrees z logRoom planes grid pile kept (putAsk p) h))
+acts-agree k s b d (NoShape p) (at-open z planes grid pile sizes small kept e) h =
     let left = putCall (stateOf z (length pile)) (shapelessAsk p) (heldBy logRoom planes grid pile) in
     rw e
-    (answered-agrees k z b grid pile left _ small lentLengths
+    (answered-agrees k z b grid pile left _ small sizes
     (put-agrees z logRoom planes grid pile kept (shapelessAsk p) (omega arith)))
-acts-agree k s b d Undo (at-open z planes grid pile lentLengths small kept e) h =
+acts-agree k s b d Undo (at-open z planes grid pile sizes small kept e) h =
     let left = undoCall (stateOf z (length pile)) (heldBy logRoom planes grid pile) in
-    rw e (answered-agrees k z b grid pile left _ small lentLengths (undo-agrees z logRoom planes grid pile kept))
-acts-agree k s b d Show (at-open z planes grid pile lentLengths small kept e) h = show-agree k z planes grid pile b small lentLengths kept e
+    rw e (answered-agrees k z b grid pile left _ small sizes (undo-agrees z logRoom planes grid pile kept))
+acts-agree k s b d Show (at-open z planes grid pile sizes small kept e) h = show-agree k z planes grid pile b small sizes kept e

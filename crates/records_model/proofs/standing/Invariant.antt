@@ -18,9 +18,8 @@ use Rattle.plate_model.specs.declared.word.Entry.{Entry}
 use Rattle.plate_model.specs.Word.{wordOf}
 use Rattle.plate_model.specs.declared.state.Outcome.{Outcome}
 use Rattle.plate_model.specs.declared.state.Outcome.the-variants.{Accepted}
-use Rattle.plate_model.specs.declared.state.Answer.{Answer}
 use Rattle.plate_model.specs.Lent.{stateOf, Lent, lent, Views, views}
-use Rattle.plate_model.specs.Refusal.{outcomeNumber, lengthCheck, viewsCheck, showCheck}
+use Rattle.plate_model.specs.Refusal.{Returned, lengthCheck, viewsCheck, showCheck}
 use Rattle.plate_model.specs.Calls.{Left, Shown, sumAt, showBy, showCall}
 use Rattle.plate_model.specs.Notebook.{bookOf, plain, BookLeft, bookShowBy, bookShow}
 use Rattle.plate_model.specs.Lists.{Plate, stepOf, shownTo, seenBy}
@@ -144,11 +143,11 @@ unfolding replyText answerText
 number-text k zero values mattes = refl
 number-text k (suc n) values mattes = rw (ne-eqb (suc n) 0 (λ e. omega arith))
 
-plain-text : (k : ℕ) (z : Size) (a : Answer) (values mattes : List ℕ)
-    → replyText k (goingOn Nothing a .reply) values mattes ≡ reportText k z (plain (outcomeNumber (a .outcome)) (a .marks))
+plain-text : (k : ℕ) (z : Size) (a : Returned) (values mattes : List ℕ)
+    → replyText k (goingOn Nothing a .reply) values mattes ≡ reportText k z (plain (a .number) (a .marks))
 unfolding goingOn reportText pictureText
 plain-text k z a values mattes =
-    let n = outcomeNumber (a .outcome) in
+    let n = a .number in
     number-text k n values mattes ∙ sym (append-nil (answerText k n))
 
 pub answered-agrees : (k : ℕ) (z : Size) (b : Buffers) (grid : List Pixel) (pile : List Entry) (l : Left) (t : BookLeft)
@@ -241,7 +240,7 @@ module _ (z : Size) (n : ℕ) (planes : List ℕ) (b : Buffers) (h : padded z �
 
   -- its pictures are printed from the front of the buffers
   seen-text : (k : ℕ) → showText (z .width) (z .height) (viewsIn z seen b .values) (viewsIn z seen b .mattes)
-      ≡ reportText k z (seenBy Accepted 0 seen)
+      ≡ reportText k z (seenBy 0 0 seen)
   unfolding viewsBack reportText pictureText seenBy answerText
   seen-text k =
       let turned = mul-comm (z .height) (z .width) in
@@ -271,10 +270,10 @@ show-agree k z planes grid pile b h s kept e =
     let fit = views-fit z b h s in
     let part : take (planeCells z) (b .planes) ≡ planes = ap (λ (l : Lent). l .planes) e in
     let shown = shown-by z n planes v (kept .lawful) (kept .cells-count) fit in
-    let iteration : bookShow book v ≡ bookShowBy Accepted book = ap (λ (o : Outcome). bookShowBy o book) fit in
+    let left : bookShow book v ≡ bookShowBy Accepted book = ap (λ (o : Outcome). bookShowBy o book) fit in
     let by = showBy Accepted (stateOf z n) planes v in
     let a : Agree z logRoom (shownTo (mirror z logRoom planes grid pile) by) (bookShowBy Accepted book) =
-    rw (iteration, shown) at (show-agrees z logRoom planes grid pile kept v) in
+    rw (left, shown) at (show-agrees z logRoom planes grid pile kept v) in
     rw (part, shown) (
       seen-text z n planes b h s k ∙ ap (reportText k z) (a .same-report),
       show-stands z b by planes grid pile _ h (shown-sized z n planes b h s) e a,

@@ -14,13 +14,12 @@ use Rattle.plate_model.specs.Fixed.{planesInAll, border}
 use Rattle.plate_model.specs.Layout.{wide, high, padded}
 use Rattle.plate_model.specs.declared.size.Size.{Size}
 use Rattle.plate_model.specs.declared.state.State.{State}
-use Rattle.plate_model.specs.declared.state.Answer.{Answer}
 use Rattle.plate_model.specs.declared.state.Outcome.{Outcome}
 use Rattle.plate_model.specs.declared.state.Outcome.the-variants.{Accepted, Refused}
-use Rattle.plate_model.specs.Refusal.{outcomeNumber, showCheck}
+use Rattle.plate_model.specs.Refusal.{Returned, outcomeNumber, showCheck}
 use Rattle.plate_model.specs.Lent.{Views}
 use Rattle.plate_model.specs.Calls.{showBy, showCall}
-use Rattle.plate_model.proofs.checks.Rows.{refusal-some}
+use Rattle.plate_model.proofs.checks.Rows.{accepted-numbered}
 use Rattle.plate_model.proofs.checks.Passed.{sizes-passed, length-passed}
 use Rattle.records_model.specs.Fixed.{cellsTop, planesRoom, textRoom}
 use Rattle.records_model.specs.declared.record.Stop.{Stop}
@@ -33,27 +32,23 @@ use Rattle.records_model.specs.Machine.{planeCells, viewsFront, showRequested, 
 use Rattle.records_model.proofs.lending.Rooms.{no-room, cells-within}
 use Rattle.records.specs.Room.{lineRoom, rowsRoom, FewCells}
 
-accepted-by : (o : Outcome) → outcomeNumber o ≡ 0 → o ≡ Accepted
-accepted-by Accepted e = refl
-accepted-by (Refused f) e = absurd (omega (arith, refusal-some f))
-
-outcome-is : (o : Outcome) (s : State) (planes : List ℕ) (v : Views) → showBy o s planes v .answer .outcome ≡ o
+number-is : (o : Outcome) (s : State) (planes : List ℕ) (v : Views) → showBy o s planes v .answer .number ≡ outcomeNumber o
 unfolding showBy
-outcome-is Accepted s planes v = refl
-outcome-is (Refused f) s planes v = refl
+number-is Accepted s planes v = refl
+number-is (Refused f) s planes v = refl
 
 -- the planes of an accepted show are as long as the plate's cells
-lent-cells : (s : State) (planes : List ℕ) (v : Views) → outcomeNumber (showCall s planes v .answer .outcome) ≡ 0
+lent-cells : (s : State) (planes : List ℕ) (v : Views) → showCall s planes v .answer .number ≡ 0
     → length planes ≡ planesInAll * padded (s .size)
 unfolding showCall showCheck
 lent-cells s planes v e =
     let check = showCheck s (length planes) (length (v .scratch)) (length (v .values)) (length (v .mattes)) in
-    let yes : check ≡ Accepted = sym (outcome-is check s planes v) ∙ accepted-by _ e in
+    let yes : check ≡ Accepted = accepted-numbered check (sym (number-is check s planes v) ∙ e) in
     let lengths = sizes-passed (s .size) _ yes .1 in
     length-passed (length planes) (planesInAll * padded (s .size)) _ lengths .0
 
 few-shown : (s : State) (planes : List ℕ) (v : Views) → length planes ≡ planeCells (s .size)
-    → outcomeNumber (showCall s planes v .answer .outcome) ≡ 0 → padded (s .size) ≤ cellsTop
+    → showCall s planes v .answer .number ≡ 0 → padded (s .size) ≤ cellsTop
 few-shown s planes v long accepted =
     let z = s .size in
     let cells = lent-cells s planes v accepted in
@@ -69,11 +64,11 @@ few-opened : (n : ℕ) (s : State) (why : Stop) → FewCells (pick (eqb n 0) (ef
 few-opened zero s why = tt
 few-opened (suc n) s why = rw (ne-eqb (suc n) 0 (λ e. omega arith)) tt
 
-pub few-answered : (q : Request) (a : Answer) → FewCells (answered q a .reply)
+pub few-answered : (q : Request) (a : Returned) → FewCells (answered q a .reply)
 unfolding answered opening goingOn
-few-answered (ToOpen z) a = few-opened (outcomeNumber (a .outcome)) (a .state) _
-few-answered (ToPut p) a = few-if (outcomeNumber (a .outcome)) Nothing (λ _. tt)
-few-answered (ToUndo s) a = few-if (outcomeNumber (a .outcome)) Nothing (λ _. tt)
+few-answered (ToOpen z) a = few-opened (a .number) (a .state) _
+few-answered (ToPut p) a = few-if (a .number) Nothing (λ _. tt)
+few-answered (ToUndo s) a = few-if (a .number) Nothing (λ _. tt)
 
 pub few-pictures : (s : State) (planes : List ℕ) (v : Views) → length planes ≡ planesRoom
     → FewCells (goingOn (Pictures (s .size)) (showRequested s planes v .answer) .reply)

@@ -3,6 +3,7 @@ use mathlib.Core.Path.{_≡_}
 use native.Mathlib.Omega.{arith}
 use lib.ListN.{length}
 use Rattle.plate_model.specs.Lent.{views}
+use Rattle.plate_model.specs.Refusal.{returned}
 use Rattle.records_model.specs.Fixed.{planesRoom}
 use Rattle.records_model.specs.Machine.{performed}
 use Rattle.records.proofs.laws.lending.ShowFits.{few-answered, few-pictures}
@@ -29,7 +30,7 @@ returns-3 c =
     let given = call .before .before .before .before .before .task3 .given in
     record {
       done = rw (given .1, ← call .call-on-front .ensures, c .answered .ensures);
-      few-cells = rw (c .answered .ensures) (few-answered (given .0 .0) (call .call-on-front .result));
+      few-cells = rw (c .answered .ensures) (few-answered (given .0 .0) (returned (call .call-on-front .result)));
     }
 
 returns-4 : tie.Need-returns-4

@@ -8,7 +8,7 @@ use Rattle.records.proofs.request.call.Tie as tie
 abbrev opens : tie.After-slice-known6 → tie.After-open
 opens c = c .before .before .before .before .before .before
 
-abbrev puts : tie.After-slice-known9 → tie.After-put
+abbrev puts : tie.After-slice-known9 → tie.After-put-asked
 puts c = c .before .before .before .before .before .before
 
 abbrev undoes : tie.After-slice-known12 → tie.After-undo
@@ -22,7 +22,7 @@ returns-2 : tie.Need-returns-2
 unfolding requestCall
 returns-2 c =
     let h = puts c in
-    rw (h .before .before .before .before .before .before .before .request2 .given .1) (h .put .ensures)
+    rw (h .before .before .before .before .before .before .before .request2 .given .1) (h .put-asked .ensures)
 
 returns-3 : tie.Need-returns-3
 unfolding requestCall
