@@ -162,8 +162,8 @@ pub fn put_kept(
     if let Outcome::Refused(why) = checked {
         return refused(why, state);
     }
-    let pixel = asked(x, y, value, opacity, shape, radius);
-    match read_put(state, pixel, planes.len(), pixels, log.len()) {
+    let arguments = asked(x, y, value, opacity, shape, radius);
+    match read_put(state, arguments, planes.len(), pixels, log.len()) {
         ChangeRead::ToChange(change) => {
             mend(size, change, sums, values, mattes);
             log_and_exchange(state, change, planes, pixels, log)

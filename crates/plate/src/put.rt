@@ -81,6 +81,6 @@ pub fn put(
     ensures { λ r. ⌜ leaves r (lentAtExit planes pixels log)
         ≡ putCall state (ask x y value opacity shape radius) (lentAtEntry planes pixels log) ⌝ }
 {
-    let pixel = asked(x, y, value, opacity, shape, radius);
-    put_asked(state, pixel, planes, pixels, log)
+    let arguments = asked(x, y, value, opacity, shape, radius);
+    put_asked(state, arguments, planes, pixels, log)
 }

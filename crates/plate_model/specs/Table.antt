@@ -17,7 +17,7 @@ use Rattle.plate_model.specs.Layout.{Size, sizeFrom, padded, places, pla
 use Rattle.plate_model.specs.Lent.{State, stateOf, Lent, LentLengths, lengthsOf, ask, Inputs, Views, Canvas}
 use Rattle.plate_model.specs.Word.{shapeIn, radiusIn}
 use Rattle.plate_model.specs.Refusal.{Refusal, Sizes, Lengths, LogCount, Place, Value, UnknownShape, LargeRadius, LogFull}
-use Rattle.plate_model.specs.Refusal.{LogEmpty, StoredWord, UnlawfulLens, Depth, DepthInside, Outcome, Accepted, Refused}
+use Rattle.plate_model.specs.Refusal.{LogEmpty, StoredWord, UnlawfulLens, Depth, DepthInside, Accepted, Refused}
 use Rattle.plate_model.specs.Refusal.{refusalNumber, openCheck}
 use Rattle.plate_model.specs.Calls.{Left, refused, Shown, shows, answerOf, openCall, putCall, undoCall, fillCall, showCall}
 use Rattle.plate_model.specs.Kept.{Refreshed, leavesKept, putKeptCall, undoKeptCall, ShownKept, showsKept, showKeptCall}

@@ -1,5 +1,5 @@
 -- What a call writes is no longer than its buffer, and what it took is fed.
-use Rattle.records.proofs.calls.Texts.{advanced-room}
+use Rattle.records.proofs.laws.calls.Texts.{advanced-room}
 use borrow.Author.Needs.{needs}
 use Rattle.lens_records.proofs.laws.feeding.Fronts.{call-fed}
 use Rattle.lens_records.proofs.advance_and_write.Statement.{statement}

@@ -4,7 +4,7 @@ use mathlib.Core.Bool.{true}
 use Prim.Native.Nat.{ℕ, _≤_, _<_}
 use lib.ListN.{getD}
 use Rattle.kernels_model.specs.declared.shape.ShapeRead.the-variants.{Known}
-use Rattle.kernels_model.specs.Shape.{shapeOf, topUnder}
+use Rattle.kernels_model.specs.Shape.{topUnder}
 use Rattle.kernels_model.specs.declared.lens.Lens.{Lens}
 use Rattle.kernels_model.specs.Lens.{lawfulLens}
 use Rattle.kernels_model.specs.Fixed.{valueTop, depthTop}

@@ -2,12 +2,12 @@
 -- after call; and on a plate of its own calls what is kept is plain spreading.
 use mathlib.Core.Path.{_≡_, refl, ap, sym, _∙_}
 use mathlib.Core.List.{List, [], _∷_, _++_, map}
-use Prim.Native.Nat.{ℕ, _+_, _-_, _<_}
+use Prim.Native.Nat.{ℕ, _+_, _<_}
 use native.Mathlib.Omega.{arith}
 use lib.ListN.{length, length-append}
 use Rattle.kernels_model.specs.Fixed.{planesEach}
 use Rattle.plate_model.specs.Layout.{Size, places, sumsInAll}
-use Rattle.plate_model.specs.Lent.{State, Ask, ask, Lent, lengthsOf, Views, Canvas, canvas}
+use Rattle.plate_model.specs.Lent.{State, Ask, ask, Lent, lengthsOf, Views, canvas}
 use Rattle.plate_model.specs.Marks.{exchanged}
 use Rattle.plate_model.specs.Refusal.{Refusal, Outcome, Accepted, Refused, outcomeNumber, canvasCheck, openCheck, showCheck}
 use Rattle.plate_model.specs.Refusal.{showKeptCheck, keptCheck}

@@ -1,5 +1,5 @@
 -- The last text is no longer than its buffer.
-use Rattle.records.proofs.calls.Texts.{finished-room}
+use Rattle.records.proofs.laws.calls.Texts.{finished-room}
 use borrow.Author.Needs.{needs}
 use Rattle.records_cases.proofs.end.Statement.{statement}
 use Rattle.records_cases.proofs.end.Tie as tie

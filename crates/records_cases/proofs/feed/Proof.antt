@@ -1,5 +1,5 @@
 -- The text is no longer than its buffer.
-use Rattle.records.proofs.calls.Texts.{advanced-room}
+use Rattle.records.proofs.laws.calls.Texts.{advanced-room}
 use borrow.Author.Needs.{needs}
 use Rattle.records_cases.proofs.feed.Statement.{statement}
 use Rattle.records_cases.proofs.feed.Tie as tie

@@ -2,7 +2,7 @@
 -- of the buffers mirrors the notebook.
 use mathlib.Core.Path.{_≡_, refl, ap, sym, _∙_}
 use mathlib.Core.List.{List, _++_, append-nil}
-use Prim.Native.Nat.{ℕ, zero, suc, _+_, _*_, _-_, _≤_}
+use Prim.Native.Nat.{ℕ, zero, suc, _+_, _*_, _≤_}
 use native.Mathlib.Nat.{mul-comm}
 use native.Mathlib.Omega.{arith}
 use borrow.Author.Tests.{ne-eqb}
@@ -157,7 +157,8 @@ unfolding goingOn
 answered-agrees k z b grid pile l t h s a = (
   plain-text k z (l .answer) (b .values) (b .mattes) ∙ ap (reportText k z) (a .same-report),
   rw (ap (λ (p : Plate). p .state) (a .same-plate), a .same-book)
-      (open-again z b (l .buffers) (a .planes) (a .grid) (a .pile) h s (ap (λ (p : Plate). p .buffers) (a .same-plate)) (a .kept)),
+      (open-again z b (l .buffers) (a .planes) (a .grid) (a .pile) h s (ap (λ (p : Plate). p .buffers) (a .same-plate))
+      (a .kept)),
 )
 
 -- SHOW

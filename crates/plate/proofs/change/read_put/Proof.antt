@@ -2,15 +2,13 @@
 use mathlib.Core.Path.{_≡_, sym, _∙_}
 use native.Mathlib.Omega.{arith}
 use denote.Ref.{now}
-use lib.ListN.{length, getD}
+use lib.ListN.{length}
 use borrow.Author.Needs.{needs}
 use Rattle.plate_model.specs.declared.lent.LentLengths.{LentLengths}
 use Rattle.plate_model.specs.Lent.{lentLengths}
-use Rattle.plate_model.specs.declared.word.Unpacked.the-variants.{Whole}
-use Rattle.plate_model.specs.Word.{readWord}
 use Rattle.plate_model.specs.declared.state.Outcome.the-variants.{Accepted}
 use Rattle.plate_model.specs.Refusal.{putCheck}
-use Rattle.plate_model.specs.Asked.{askedPlace, askedPixel}
+use Rattle.plate_model.specs.Asked.{askedPixel}
 use Rattle.plate_model.specs.Change.{putOver, putReadBy, putRead}
 use Rattle.plate_model.proofs.checks.Accepted.{PlateAccepted, plate-accepted, AskAccepted, ask-accepted}
 use Rattle.plate.proofs.laws.checks.Asked.{pixel-asked, pixel-not-asked}

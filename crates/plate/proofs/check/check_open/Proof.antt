@@ -7,7 +7,6 @@ use Rattle.plate_model.proofs.checks.Passed.{sizes-passed}
 use Rattle.plate.proofs.laws.checks.Chains.{sizes-before}
 use Rattle.plate.proofs.check.check_open.Statement.{statement}
 use Rattle.plate.proofs.check.check_open.Tie as tie
-use Rattle.plate_model.specs.Lent.{lentLengths}
 
 returns : tie.Need-returns
 unfolding openCheck

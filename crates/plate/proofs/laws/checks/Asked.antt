@@ -1,5 +1,5 @@
 -- The pixel that a put asks for: what its checks say, told apart.
-use mathlib.Core.Path.{_≡_, refl, sym, ap}
+use mathlib.Core.Path.{_≡_, refl, ap}
 use native.Mathlib.Omega.{arith}
 use Prim.Native.Nat.{ℕ}
 use Rattle.plate_model.specs.declared.word.Pixel.{Pixel}

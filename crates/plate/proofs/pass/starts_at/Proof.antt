@@ -1,7 +1,7 @@
 -- `pass::starts_at` meets its contract: the record is the definition's, the lines of even and of odd rows both fit, and so does a
 -- row of marks.
 use mathlib.Core.Path.{refl}
-use Prim.Native.Nat.{_+_, _*_, _-_, _%_, _≤_}
+use Prim.Native.Nat.{_+_, _*_, _%_, _≤_}
 use native.Mathlib.Omega.{arith}
 use Rattle.plate.specs.Passes.{startsAt, twoLines}
 use Rattle.plate_model.proofs.numbers.Extents.{row-in}
