@@ -142,6 +142,15 @@ fn goes_on(machine: Machine, ok: bool) -> bool {
     !records::machine::ended(machine)
 }
 
+// The run after a read that brought nothing: the input has ended, or the read has failed.
+fn after_last_read(machine: Machine, ok: bool) -> Run {
+    Run {
+        machine: machine,
+        ok: ok_or_report(ok, b"cannot read standard input, so the run is cut short\n"),
+        more: false,
+    }
+}
+
 // One read, and the text of what it brought. The run goes on unless the input has ended, it has stopped, or a read or a write has
 // failed.
 fn read_once(
@@ -158,14 +167,7 @@ fn read_once(
     let got = libc::read(STDIN_FILENO, input);
     let n = io::count(got, input);
     if n == 0 {
-        return Run {
-            machine: machine,
-            ok: ok_or_report(
-                got == 0,
-                b"cannot read standard input, so the run is cut short\n",
-            ),
-            more: false,
-        };
+        return after_last_read(machine, got == 0);
     }
     let written = part(
         machine,

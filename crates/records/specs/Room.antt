@@ -8,7 +8,11 @@ use Rattle.records_model.specs.Fixed.{cellsTop, planesRoom, scratchRoom, textRo
 use Rattle.records_model.specs.declared.effect.Reply.{Reply}
 use Rattle.records_model.specs.declared.effect.Reply.the-variants.{Nothing, StoppedBy, RefusedBy, Pictures}
 
--- the bytes of a line but for its first word: two numbers of at most 20 digits, and what stands between and after them
+-- the bytes of a number of at most 20 digits, with a space before it
+abbrev pub numberRoom : ℕ
+numberRoom = 21
+
+-- those of a line but for its first word: two such numbers, and what stands between and after them
 abbrev pub lineRoom : ℕ
 lineRoom = 48
 

@@ -5,7 +5,7 @@ use records_model::fixed::Mattes;
 use records_model::fixed::Values;
 use records_model::record::Stop;
 ghost use mathlib.Core.Path.{_≡_};
-ghost use mathlib.Core.List.{[], _∷_};
+ghost use mathlib.Core.List.{[], _∷_, _++_};
 ghost use Prim.Native.Nat.{_+_, _*_, _^_, _<_, _≤_};
 ghost use lib.ListN.{length};
 ghost use Rattle.records_model.specs.Fixed.{textRoom};
@@ -13,7 +13,7 @@ ghost use Rattle.records_model.specs.Text.{decimal, space, numbered, doneLine, 
 ghost use Rattle.records_model.specs.Run.{stopText};
 ghost use Rattle.records_model.specs.Machine.{replyText};
 ghost use Rattle.records.specs.Written.{Wrote, WroteIn, gapText};
-ghost use Rattle.records.specs.Room.{lineRoom, cellRoom, rowRoom, rowsRoom, CellsRoom, ShowRoom, ReplyRoom};
+ghost use Rattle.records.specs.Room.{numberRoom, lineRoom, cellRoom, rowRoom, rowsRoom, CellsRoom, ShowRoom, ReplyRoom};
 
 // One byte.
 fn byte(out: &mut [u8], at: usize, b: u8) -> usize
@@ -51,11 +51,21 @@ fn word(out: &mut [u8], at: usize, w: &[u8]) -> usize
 
 // A space and a number.
 fn spaced(out: &mut [u8], at: usize, n: u64) -> usize
-    requires { ⌜ at + 1 + length (decimal n) ≤ length (now out) ⌝ }
-    ensures { λ r. ⌜ Wrote (now (out .entry)) at (space ∷ decimal n) (now (out .exit)) r ⌝ }
+    requires { ⌜ at + numberRoom ≤ length (now out) ⌝ }
+    ensures { λ r. ⌜ WroteIn numberRoom (now (out .entry)) at (space ∷ decimal n) (now (out .exit)) r ⌝ }
 {
     let next = byte(out, at, b' ');
     number(out, next, n)
+}
+
+// A word, and a number after it.
+fn labelled(out: &mut [u8], at: usize, w: &[u8], n: u64) -> usize
+    requires { ⌜ at + length (now w) + numberRoom ≤ length (now out) ⌝ }
+    ensures { λ r. ⌜ WroteIn (length (now (w .entry)) + numberRoom) (now (out .entry)) at
+        (now (w .entry) ++ (space ∷ decimal n)) (now (out .exit)) r ⌝ }
+{
+    let next = word(out, at, w);
+    spaced(out, next, n)
 }
 
 // The line of a stop or a refusal: a word, a number, and the record that it came at.
@@ -63,11 +73,9 @@ fn line(out: &mut [u8], at: usize, w: &[u8], n: u64, k: u64) -> usize
     requires { ⌜ at + length (now w) + lineRoom ≤ length (now out) ⌝ }
     ensures { λ r. ⌜ Wrote (now (out .entry)) at (numbered (now (w .entry)) n k) (now (out .exit)) r ⌝ }
 {
-    let one = word(out, at, w);
-    let two = spaced(out, one, n);
-    let three = word(out, two, b" at");
-    let four = spaced(out, three, k);
-    byte(out, four, b'\n')
+    let one = labelled(out, at, w, n);
+    let two = labelled(out, one, b" at", k);
+    byte(out, two, b'\n')
 }
 
 // The line of a stop.
@@ -83,9 +91,8 @@ pub(crate) fn done(out: &mut [u8], k: u64) -> usize
     requires { ⌜ lineRoom ≤ length (now out) ⌝ }
     ensures { λ r. ⌜ Wrote (now (out .entry)) 0 (doneLine k) (now (out .exit)) r ⌝ }
 {
-    let one = word(out, 0, b"done");
-    let two = spaced(out, one, k);
-    byte(out, two, b'\n')
+    let next = labelled(out, 0, b"done", k);
+    byte(out, next, b'\n')
 }
 
 // The first line of a show.
@@ -93,10 +100,9 @@ fn head(out: &mut [u8], at: usize, w: u64, h: u64) -> usize
     requires { ⌜ at + lineRoom ≤ length (now out) ⌝ }
     ensures { λ r. ⌜ WroteIn lineRoom (now (out .entry)) at (headLine w h) (now (out .exit)) r ⌝ }
 {
-    let one = word(out, at, b"plate");
-    let two = spaced(out, one, w);
-    let three = spaced(out, two, h);
-    byte(out, three, b'\n')
+    let one = labelled(out, at, b"plate", w);
+    let two = spaced(out, one, h);
+    byte(out, two, b'\n')
 }
 
 // A byte and a number of two bytes, as wide as `number` takes them.

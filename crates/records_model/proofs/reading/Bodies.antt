@@ -12,7 +12,7 @@ use Rattle.kernels_model.specs.declared.shape.ShapeRead.{ShapeRead}
 use Rattle.kernels_model.specs.declared.shape.ShapeRead.the-variants.{Known, Unknown}
 use Rattle.kernels_model.specs.Shape.{shapeOf}
 use Rattle.records_model.specs.Fixed.{openBody, putBody}
-use Rattle.records_model.specs.Record.{Record, Open, Put, NoShape, Undo, Show, putRecord, recordOf}
+use Rattle.records_model.specs.Record.{Record, Open, Put, NoShape, Undo, Show, pair, putRecord, recordOf}
 
 abbrev pub AllBytes : List ℕ → Type 0
 AllBytes l = (i : ℕ) → getD l i 0 < 256
@@ -27,38 +27,29 @@ pub drop-bytes : (n : ℕ) (l : List ℕ) → AllBytes l → AllBytes (drop n l)
 drop-bytes n l h i = rw (getD-drop n l i 0) (h (n + i))
 
 -- A RECORD LOOKS AT NO MORE THAN ITS BODY
+front-pair : (n i : ℕ) (b : List ℕ) → i + 1 < n → pair b i ≡ pair (take n b) i
+front-pair n i b h = rw (getD-take n b i 0 (omega arith), getD-take n b (i + 1) 0 h)
+
 pub front-open : (b : List ℕ) → recordOf 1 b ≡ recordOf 1 (take openBody b)
 unfolding recordOf
 front-open b =
     rw (
-      getD-take openBody b 0 0 (omega arith),
-      getD-take openBody b 1 0 (omega arith),
-      getD-take openBody b 2 0 (omega arith),
-      getD-take openBody b 3 0 (omega arith),
+      front-pair openBody 0 b (omega arith),
+      front-pair openBody 2 b (omega arith),
       getD-take openBody b 4 0 (omega arith),
     )
 
 front-put-as : (s : ShapeRead) (b : List ℕ) → putRecord s b ≡ putRecord s (take putBody b)
 front-put-as (Known s) b =
     rw (
-      getD-take putBody b 0 0 (omega arith),
-      getD-take putBody b 1 0 (omega arith),
-      getD-take putBody b 2 0 (omega arith),
-      getD-take putBody b 3 0 (omega arith),
-      getD-take putBody b 4 0 (omega arith),
-      getD-take putBody b 5 0 (omega arith),
+      front-pair putBody 0 b (omega arith),
+      front-pair putBody 2 b (omega arith),
+      front-pair putBody 4 b (omega arith),
       getD-take putBody b 6 0 (omega arith),
       getD-take putBody b 8 0 (omega arith),
     )
 front-put-as Unknown b =
-    rw (
-      getD-take putBody b 0 0 (omega arith),
-      getD-take putBody b 1 0 (omega arith),
-      getD-take putBody b 2 0 (omega arith),
-      getD-take putBody b 3 0 (omega arith),
-      getD-take putBody b 4 0 (omega arith),
-      getD-take putBody b 5 0 (omega arith),
-    )
+    rw (front-pair putBody 0 b (omega arith), front-pair putBody 2 b (omega arith), front-pair putBody 4 b (omega arith))
 
 pub front-put : (b : List ℕ) → recordOf 2 b ≡ recordOf 2 (take putBody b)
 unfolding recordOf

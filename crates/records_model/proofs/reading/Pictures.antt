@@ -10,7 +10,10 @@ module _ (values mattes more rest : List ℕ) where
   cell-front : (i : ℕ) → i < length values → i < length mattes
       → cellText (values ++ more) (mattes ++ rest) i ≡ cellText values mattes i
   unfolding cellText
-  cell-front i p q = rw (List·getD-append values more 0 i p, List·getD-append mattes rest 0 i q)
+  cell-front i p q =
+      let value = List·getD-append values more 0 i p in
+      let matte = List·getD-append mattes rest 0 i q in
+      cc
 
   row-front : (i n : ℕ) → i + n ≤ length values → i + n ≤ length mattes
       → rowText (values ++ more) (mattes ++ rest) i n ≡ rowText values mattes i n

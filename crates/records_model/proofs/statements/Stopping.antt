@@ -4,7 +4,7 @@ use mathlib.Core.Logic.{_⊎_, inl, inr, ⊎-elim}
 use mathlib.Core.List.{List, [], _∷_}
 use Prim.Native.Nat.{ℕ, zero, suc, _+_, _≤_, _<_}
 use native.Mathlib.Omega.{arith}
-use lib.ListN.{getD, length, take}
+use lib.ListN.{getD, length, take, drop}
 use borrow.Author.Tests.{lt-ltb, le-ltb}
 use Rattle.kernels_model.specs.Rows.{FirstOf}
 use Rattle.kernels_model.specs.declared.shape.ShapeRead.{ShapeRead}
@@ -17,7 +17,6 @@ use Rattle.plate_model.specs.declared.state.Outcome.{Outcome}
 use Rattle.plate_model.specs.declared.state.Outcome.the-variants.{Accepted, Refused}
 use Rattle.plate_model.specs.declared.state.Refusal.the-variants.{Sizes as BadSizes}
 use Rattle.plate_model.specs.Refusal.{sizesCheck}
-use Rattle.plate_model.specs.Table.{SizesOutside}
 use Rattle.plate_model.specs.Notebook.{Book, openBook}
 use Rattle.plate_model.proofs.checks.Rows.{by-check}
 use Rattle.plate_model.proofs.checks.Conditions.{sizes-checks}
@@ -126,56 +125,30 @@ by-body : (k n : ℕ) (d : CurrentBook) (kind : ℕ) (rest : List ℕ) (m : ℕ)
 unfolding FirstOf
 by-body k n d kind rest m known e short h = inr (known, inl (short, short-stops k n d kind rest m e h))
 
+-- in order: what an open's sizes and cells decide
+past-order : (k n : ℕ) (d : CurrentBook) (kind : ℕ) (rest : List ℕ)
+    → ¬ (KindUnknown kind) → ¬ (BodyShort kind rest) → ¬ (OutOfOrder d kind)
+    → FirstOf (λ s. textFrom k d (itemsBy (suc n) (kind ∷ rest)) ≡ stopText (k + 1) s) (GoesOnAfter k n d kind rest)
+    (drop 3 (recordRows d kind rest))
+    → Stopped k n d kind rest
+unfolding FirstOf
+past-order k n d kind rest known long order first = inr (known, inr (long, inr (order, first)))
+
 open-closed : (k n : ℕ) (rest : List ℕ) → openBody ≤ length rest → Stopped k n notOpen 1 rest
 unfolding FirstOf OutOfOrder act
 open-closed k n rest whole =
     let z = openSize rest in
     let known = kind-known 1 (omega arith) (omega arith) in
     let long = body-whole 1 rest (λ _. whole) (λ e. absurd (omega arith)) in
-    by-check (sizes-checks z)
-    (λ outside bad. inr (
-      known,
-      inr (
-        long,
-        inr (
-          (λ no. no refl),
-          inl
-              ((refl, outside), act-stops k n notOpen 1 rest openBody refl whole _ (open-read rest) Sizes (opens-stop z bad)),
-        ),
-      ),
-    ))
-    (λ lawful fine.
-    let inside : ¬ ((1 ≡ 1) × SizesOutside z) = λ p. sizes-checks z .apart (p .1) lawful in
-    by-lt cellsTop (padded z)
-    (λ h. inr (
-      known,
-      inr (
-        long,
-        inr (
-          (λ no. no refl),
-          inr (
-            inside,
-            inl
-                ((refl, h), act-stops k n notOpen 1 rest openBody refl whole _ (open-read rest) Cells (opens-full z fine h)),
-          ),
-        ),
-      ),
-    ))
-    (λ h. inr (
-      known,
-      inr (
-        long,
-        inr (
-          (λ no. no refl),
-          inr (
-            inside,
-            inr (
-              (λ p. omega (arith, p .1)),
-              act-goes k n notOpen 1 rest openBody refl whole _ (open-read rest) _ _ (opens-go z fine h),
-            ),
-          ),
-        ),
-      ),
+    let read = open-read rest in
+    past-order k n notOpen 1 rest known long (λ no. no refl)
+    (by-check (sizes-checks z)
+    (λ outside bad. inl ((refl, outside), act-stops k n notOpen 1 rest openBody refl whole _ read Sizes (opens-stop z bad)))
+    (λ lawful fine. inr (
+      (λ p. sizes-checks z .apart (p .1) lawful),
+      by-lt cellsTop (padded z)
+          (λ h. inl ((refl, h), act-stops k n notOpen 1 rest openBody refl whole _ read Cells (opens-full z fine h)))
+          (λ h. inr ((λ p. omega (arith, p .1)), act-goes k n notOpen 1 rest openBody refl whole _ read _ _ (opens-go z fine h))),
     )))
 
 -- out of order
@@ -190,20 +163,8 @@ by-none : (k n : ℕ) (b : Book) (kind : ℕ) (rest : List ℕ) → 2 ≤ kind �
     → GoesOnAfter k n (openWith b) kind rest → Stopped k n (openWith b) kind rest
 unfolding FirstOf OutOfOrder
 by-none k n b kind rest low high long goes =
-    inr (
-      kind-known kind (omega arith) high,
-      inr (
-        long,
-        inr (
-          (λ e. omega arith),
-          inr (
-            (λ p. omega (arith, p .0)),
-            inr
-                ((λ p. omega (arith, p .0)), goes),
-          ),
-        ),
-      ),
-    )
+    past-order k n (openWith b) kind rest (kind-known kind (omega arith) high) long (λ e. omega arith)
+    (inr ((λ p. omega (arith, p .0)), inr ((λ p. omega (arith, p .0)), goes)))
 
 -- EVERY KIND
 pub stops-by-rows : StopsByRows

@@ -33,7 +33,7 @@ loop-holds c =
     (omega arith, refl, reached-start (a .m) _ (a .input .now) (a .out .now))
 
 returns : tie.Need-returns Inv-loop μ-loop
-returns c = reached-full (c .before .before .before .loop .inv .2) (c .if1 .taken)
+returns c = reached-full (c .before .before .before .loop .inv .2) (omega (arith, c .if1 .taken))
 
 feed-requires : tie.Need-feed-requires Inv-loop μ-loop
 feed-requires c κs =

@@ -1,126 +1,28 @@
--- One piece after another; the numbers have at most 20 digits each.
-use mathlib.Core.Path.{_∙_}
-use native.Mathlib.Omega.{arith}
-use Rattle.records_model.specs.Text.{numbered}
+-- One piece after another.
+use mathlib.Core.List.{_∷_, _++_, append-assoc}
+use Rattle.records_model.specs.Text.{space, decimal, atWord, numbered}
 use Rattle.records.proofs.laws.writing.Slices.{then-wrote}
-use Rattle.records.proofs.laws.writing.Decimals.{decimal-long}
 use borrow.Author.Needs.{needs}
 use Rattle.records.proofs.text.line.Statement.{statement}
 use Rattle.records.proofs.text.line.Tie as tie
 
--- the start of the call, seen from its first step, and each step from the next one
-abbrev start : tie.After-word → tie.Start
-start c = c .before .before .before .before
-
-abbrev first : tie.After-spaced → tie.After-word
-first c = c .before .before .before .before
-
-abbrev second : tie.After-word2 → tie.After-spaced
-second c = c .before .before .before .before .before
-
-abbrev third : tie.After-spaced2 → tie.After-word2
-third c = c .before .before .before .before
-
-abbrev fourth : tie.After-byte → tie.After-spaced2
-fourth c = c .before .before .before .before
-
-spaced-requires : tie.Need-spaced-requires
-spaced-requires c κs =
-    let one = c .before .before .before in
-    let s = start one in
-    omega (
-      arith,
-      one .word .kept .0,
-      one .word .ensures .next-is,
-      s .pre,
-      decimal-long (s .args .n) (omega arith),
-    )
-
-word-requires-2 : tie.Need-word-requires-2
-word-requires-2 c κs =
-    let two = c .before .before .before .before in
-    let one = first two in
-    let s = start one in
-    omega (
-      arith,
-      one .word .kept .0,
-      two .spaced .kept .0,
-      one .word .ensures .next-is,
-      two .spaced .ensures .next-is,
-      s .pre,
-      decimal-long (s .args .n) (omega arith),
-    )
-
-spaced-requires-2 : tie.Need-spaced-requires-2
-spaced-requires-2 c κs =
-    let three = c .before .before .before in
-    let two = second three in
-    let one = first two in
-    let s = start one in
-    omega (
-      arith,
-      one .word .kept .0,
-      two .spaced .kept .0,
-      three .word2 .kept .0,
-      one .word .ensures .next-is,
-      two .spaced .ensures .next-is,
-      three .word2 .ensures .next-is,
-      s .pre,
-      decimal-long (s .args .n) (omega arith),
-      decimal-long (s .args .k) (omega arith),
-    )
-
-byte-requires : tie.Need-byte-requires
-byte-requires c κs =
-    let four = c .before .before .before in
-    let three = third four in
-    let two = second three in
-    let one = first two in
-    let s = start one in
-    omega (
-      arith,
-      one .word .kept .0,
-      two .spaced .kept .0,
-      three .word2 .kept .0,
-      four .spaced2 .kept .0,
-      one .word .ensures .next-is,
-      two .spaced .ensures .next-is,
-      three .word2 .ensures .next-is,
-      four .spaced2 .ensures .next-is,
-      s .pre,
-      decimal-long (s .args .n) (omega arith),
-      decimal-long (s .args .k) (omega arith),
-    )
-
-same-length : tie.Need-same-length
-same-length c =
-    let five = c .before .before in
-    let four = fourth five in
-    let three = third four in
-    let two = second three in
-    let one = first two in
-    five .byte .kept .0 ∙ four .spaced2 .kept .0 ∙ three .word2 .kept .0 ∙ two .spaced .kept .0 ∙ one .word .kept .0
-
 returns : tie.Need-returns
 unfolding numbered
 returns c =
-    let five = c .before .before in
-    let four = fourth five in
-    let three = third four in
-    let two = second three in
-    let one = first two in
-    let start-wrote = then-wrote (then-wrote (one .word .ensures) (two .spaced .ensures)) (three .word2 .ensures) in
-    then-wrote (then-wrote start-wrote (four .spaced2 .ensures)) (five .byte .ensures)
+    let last = c .before .before in
+    let second = last .before .before .before .before in
+    let first = second .before .before .before .before .before in
+    let a = first .before .before .before .before .args in
+    rw (append-assoc (a .w .now ++ (space ∷ decimal (a .n))) (space ∷ atWord) (space ∷ decimal (a .k)))
+    (then-wrote (then-wrote (first .labelled .ensures .wrote) (second .labelled2 .ensures .wrote)) (last .byte .ensures))
 
 pub line-spec : {M : Type 1} → statement M
 line-spec =
     tie.close
     (tie.spec
     (λ c κs. search needs)
-    spaced-requires
     (λ c. search needs)
-    word-requires-2
-    spaced-requires-2
-    byte-requires
-    same-length
+    (λ c κs. search needs)
+    (λ c κs. search needs)
+    (λ c. search needs)
     returns)
