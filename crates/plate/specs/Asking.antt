@@ -8,11 +8,11 @@ use Rattle.plate_model.specs.declared.word.Pixel.{Pixel}
 use Rattle.plate_model.specs.Refusal.{putCheck}
 use Rattle.plate_model.specs.Asked.{askedPixel}
 pub use Rattle.plate.specs.declared.check.PixelRead.{PixelRead}
-pub use Rattle.plate.specs.declared.check.PixelRead.the-variants.{Asked, NotAsked}
+pub use Rattle.plate.specs.declared.check.PixelRead.the-variants.{ToPut, NoPut}
 
 abbrev pub pixelBy : Outcome → Pixel → PixelRead
-pixelBy Accepted p = Asked p
-pixelBy (Refused f) p = NotAsked f
+pixelBy Accepted p = ToPut p
+pixelBy (Refused f) p = NoPut f
 
 -- by all that a put checks but for the stored word
 abbrev pub pixelRead : State → Ask → LentLengths → PixelRead

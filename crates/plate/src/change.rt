@@ -34,7 +34,7 @@ pub(crate) fn read_put(
         log: log,
     };
     match check_put(state, ask, lengths) {
-        PixelRead::Asked(new) => {
+        PixelRead::ToPut(new) => {
             let x = ask.x;
             let y = ask.y;
             let place = y * state.size.width + x;
@@ -49,7 +49,7 @@ pub(crate) fn read_put(
                 new: new,
             })
         }
-        PixelRead::NotAsked(why) => ChangeRead::NoChange(why),
+        PixelRead::NoPut(why) => ChangeRead::NoChange(why),
     }
 }
 

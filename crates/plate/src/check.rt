@@ -26,8 +26,8 @@ ghost use Rattle.plate.specs.Filling.{fillLengths};
 
 // The pixel that a put asks for, or why it is refused.
 pub(crate) enum PixelRead {
-    Asked(Pixel),
-    NotAsked(Refusal),
+    ToPut(Pixel),
+    NoPut(Refusal),
 }
 
 // 1: whether a plate can have these sizes.
@@ -122,24 +122,24 @@ fn check_ask(state: State, ask: Ask, log: usize) -> PixelRead
     let radius = ask.radius;
     let count = state.count;
     if width <= x {
-        return PixelRead::NotAsked(Refusal::Place);
+        return PixelRead::NoPut(Refusal::Place);
     }
     if height <= y {
-        return PixelRead::NotAsked(Refusal::Place);
+        return PixelRead::NoPut(Refusal::Place);
     }
     if VALUE_TOP < value {
-        return PixelRead::NotAsked(Refusal::Value);
+        return PixelRead::NoPut(Refusal::Value);
     }
     let ShapeRead::Known(shape) = read else {
-        return PixelRead::NotAsked(Refusal::UnknownShape);
+        return PixelRead::NoPut(Refusal::UnknownShape);
     };
     if kernels::shape::top_under(shape, state.size.reach) < radius {
-        return PixelRead::NotAsked(Refusal::LargeRadius);
+        return PixelRead::NoPut(Refusal::LargeRadius);
     }
     if count == log {
-        return PixelRead::NotAsked(Refusal::LogFull);
+        return PixelRead::NoPut(Refusal::LogFull);
     }
-    PixelRead::Asked(Pixel {
+    PixelRead::ToPut(Pixel {
         value: value,
         opacity: ask.opacity,
         shape: shape,
@@ -153,7 +153,7 @@ pub(crate) fn check_put(state: State, ask: Ask, lent: LentLengths) -> PixelRead
 {
     let plate = check_plate(state, lent);
     if let Outcome::Refused(why) = plate {
-        return PixelRead::NotAsked(why);
+        return PixelRead::NoPut(why);
     }
     check_ask(state, ask, lent.log)
 }

@@ -24,6 +24,7 @@ pub record Left : Type 0 where
   pub answer : Returned
   pub buffers : Lent
 
+-- an answer, and what is left
 abbrev pub leaves : Answer → Lent → Left
 leaves a l = record { answer = returned a; buffers = l }
 

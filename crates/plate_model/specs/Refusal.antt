@@ -50,7 +50,7 @@ pub record Returned : Type 0 where
   pub marks : ℕ
   pub state : State
 
--- an answer's
+-- "Where an answer is an enum, a definition gives this paper's number and values for each of its cases": an answer's
 abbrev pub returned : Answer → Returned
 returned a = record { number = outcomeNumber (a .outcome); marks = a .marks; state = a .state }
 

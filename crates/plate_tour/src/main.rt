@@ -73,7 +73,7 @@ fn fill(state: State, planes: &mut [u64], pixels: &mut [u64], log: &mut [u64]) -
 }
 
 // An opaque box of radius 1, put with sums and pictures mended.
-fn dab(
+fn put_pixel(
     state: State,
     planes: &mut [u64],
     pixels: &mut [u64],
@@ -114,7 +114,7 @@ fn paint(state: State, planes: &mut [u64; 1386], pixels: &mut [u64; 3], log: &mu
         &mut mattes,
         &mut sums,
     );
-    let put = dab(
+    let put = put_pixel(
         state,
         planes,
         pixels,

@@ -16,7 +16,7 @@ use std::{env, fs};
 
 use files::Gray;
 use lens::{Canvas, Layer, Lens, Pictures, Plate, Refusal, Shape};
-use scene::{Dab, FOCUS, HEIGHT, Scene, WIDTH};
+use scene::{FOCUS, HEIGHT, PlacedPixel, Scene, WIDTH};
 use sheet::Sheet;
 
 const REACH: usize = 16;
@@ -128,7 +128,7 @@ impl Painted {
 }
 
 /// Paints a stroke, and holds the pictures at its end against a show.
-fn paint(canvas: &mut Canvas, stroke: &[Dab]) -> Result<Painted, Box<dyn Error>> {
+fn paint(canvas: &mut Canvas, stroke: &[PlacedPixel]) -> Result<Painted, Box<dyn Error>> {
     let mut marks = 0;
     let start = Instant::now();
     for &(x, y, pixel) in stroke {

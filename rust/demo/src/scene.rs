@@ -135,20 +135,20 @@ fn wall(x: i32, y: i32) -> Point {
 }
 
 /// A pixel of the stroke, with its place.
-pub type Dab = (usize, usize, Pixel);
+pub type PlacedPixel = (usize, usize, Pixel);
 
 /// A wave across the picture, three pixels thick, as a brush would put it.
-pub fn stroke() -> Vec<Dab> {
+pub fn stroke() -> Vec<PlacedPixel> {
     let pixel = Pixel { value: 4_095, opacity: 255, shape: Shape::Diamond, radius: 3 };
-    let mut dabs = Vec::new();
+    let mut pixels = Vec::new();
     for x in 0..200 {
         // Arcs of a parabola, by turns above and below.
         let from_middle = x % 50 - 25;
         let arc = 16 - from_middle * from_middle / 39;
         let middle = if x / 50 % 2 == 0 { 80 - arc } else { 80 + arc };
         for y in middle - 1..=middle + 1 {
-            dabs.push((60 + x as usize, y as usize, pixel));
+            pixels.push((60 + x as usize, y as usize, pixel));
         }
     }
-    dabs
+    pixels
 }

@@ -38,7 +38,7 @@ use Rattle.plate_model.proofs.checks.Conditions.{shape-checks, radius-c
 use Rattle.plate_model.proofs.checks.Conditions.{inside-checks, lens-checks}
 use Rattle.plate_model.proofs.checks.Passed.{sizes-pass, lent-pass}
 use Rattle.plate_model.proofs.checks.Accepted.{plate-accepted}
-use Rattle.plate_model.proofs.words.Stored.{WordTold, word-told, EntryTold, entry-told}
+use Rattle.plate_model.proofs.words.Stored.{WordCases, word-cases, EntryCases, entry-cases}
 
 -- WHERE A CALL IS REFUSED
 -- a call that goes on by what it has heard, from its check or from what it read: its number is that of the outcome that it heard,
@@ -116,14 +116,14 @@ undo-outcome Accepted s pixels log = refl
 undo-outcome (Refused f) s pixels log = refl
 
 -- 10 of a put
-put-stored : (z : Size) (a : Ask) (w : ℕ) → WordTold (z .reach) w
+put-stored : (z : Size) (a : Ask) (w : ℕ) → WordCases (z .reach) w
     → OutcomeBy (row StoredWord (WordBroken (z .reach) w) ∷ []) (outcomeOf (putOver (readWord (z .reach) w) z a))
 unfolding FirstOf putOver
 put-stored z a w (inl t) = inl (t .0, rw (t .1))
 put-stored z a w (inr t) = inr (t .sound, rw (t .read))
 
 -- and of an undo
-undo-stored : (z : Size) (e : ℕ) (pixels : List ℕ) → EntryTold z e
+undo-stored : (z : Size) (e : ℕ) (pixels : List ℕ) → EntryCases z e
     → OutcomeBy (row StoredWord (EntryBroken z e ⊎ WordBroken (z .reach) (getD pixels (placeIn e) 0)) ∷ [])
     (outcomeOf (undoEntry (readEntry z e) z pixels))
 unfolding FirstOf undoEntry undoOver
@@ -132,7 +132,7 @@ undo-stored z e pixels (inr t) =
     ⊎-elim
     (λ w. inl (inr (w .0), rw (t .read, t .place-is, w .1)))
     (λ w. inr (⊎-elim (t .sound) (w .sound), rw (t .read, t .place-is, w .read)))
-    (word-told (z .reach) (getD pixels (placeIn e) 0))
+    (word-cases (z .reach) (getD pixels (placeIn e) 0))
 
 -- PUT
 -- 4 to 8
@@ -164,7 +164,7 @@ put-reads s x y v a n r l =
     rw (put-outcome check z p (l .pixels))
     (answers-then _ _ check _
     (plate-first s l _ _ (λ _. ask-first z (s .count) (length (l .log)) x y v a n r))
-    (λ _. put-stored z p _ (word-told (z .reach) (getD (l .pixels) (askedPlace z p) 0))))
+    (λ _. put-stored z p _ (word-cases (z .reach) (getD (l .pixels) (askedPlace z p) 0))))
 
 put-goes : (s : State) (x y v a n r : ℕ) (l : Lent) → GoesBy (putRows s x y v n r l) s l (putCall s (ask x y v a n r) l)
 unfolding putCall putBy changed
@@ -182,7 +182,7 @@ undo-reads s l =
     (answers-then _ _ check _
     (plate-first s l _ _ (λ _. first-check (empty-checks (s .count)) [] Accepted (λ _. last-row)))
     (λ e. undo-stored z _ (l .pixels)
-    (entry-told z (getD (l .log) (s .count - 1) 0) (plate-accepted s (lengthsOf l) _ e .0 .lawful))))
+    (entry-cases z (getD (l .log) (s .count - 1) 0) (plate-accepted s (lengthsOf l) _ e .0 .lawful))))
 
 undo-goes : (s : State) (l : Lent) → GoesBy (undoRows s l) s l (undoCall s l)
 unfolding undoCall undoBy changed

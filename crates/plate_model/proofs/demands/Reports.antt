@@ -35,31 +35,31 @@ counts-few s t =
 
 -- WHAT EACH CALL REPORTS
 -- an accepted call reports n marks, a refused one none
-pub record Told (n : ℕ) (r : Report) : Type 0 where
+pub record Reported (n : ℕ) (r : Report) : Type 0 where
   pub if-accepted : r .number ≡ 0 → r .marks ≡ n
   pub if-refused : (r .number ≡ 0 → ⊥) → r .marks ≡ 0
 
-told-refused : (n : ℕ) (f : Refusal) → Told n (plain (refusalNumber f) 0)
-told-refused n f = record { if-accepted = λ e. absurd (omega (arith, refusal-some f)); if-refused = λ d. refl }
+reported-refused : (n : ℕ) (f : Refusal) → Reported n (plain (refusalNumber f) 0)
+reported-refused n f = record { if-accepted = λ e. absurd (omega (arith, refusal-some f)); if-refused = λ d. refl }
 
-told-accepted : (n : ℕ) → Told n (plain 0 n)
-told-accepted n = record { if-accepted = λ e. refl; if-refused = λ d. absurd (d refl) }
+reported-accepted : (n : ℕ) → Reported n (plain 0 n)
+reported-accepted n = record { if-accepted = λ e. refl; if-refused = λ d. absurd (d refl) }
 
 -- on the notebook
 book-put : (b : Book) (a : Ask)
-    → Told (markCount (pixelAt (b .grid) (askedPlace (b .size) a)) + markCount (askedPixel a)) (bookPut b a .report)
+    → Reported (markCount (pixelAt (b .grid) (askedPlace (b .size) a)) + markCount (askedPixel a)) (bookPut b a .report)
 unfolding bookPut
 book-put b a = by (askCheck (b .size) (length (b .pile)) (b .room) a)
   where
     by : (o : Outcome)
-        → Told (markCount (pixelAt (b .grid) (askedPlace (b .size) a)) + markCount (askedPixel a)) (bookPutBy o b a .report)
-    by Accepted = unfold bookPutBy in (told-accepted _)
-    by (Refused f) = unfold bookPutBy in (told-refused _ f)
+        → Reported (markCount (pixelAt (b .grid) (askedPlace (b .size) a)) + markCount (askedPixel a)) (bookPutBy o b a .report)
+    by Accepted = unfold bookPutBy in (reported-accepted _)
+    by (Refused f) = unfold bookPutBy in (reported-refused _ f)
 
 -- on a plate: "Both report the table's marks of the old shape plus those of the new"
 module _ (z : Size) (room : ℕ) (planes : List ℕ) (grid : List Pixel) where
   pub put-reports : (pile : List Entry) → Mirrored z room planes grid pile → (x y v : ℕ) (a : Byte) (s : ℕ) (r : Byte)
-      → Told (countOf (pixelAt grid (y * z .width + x) .shape) + countOf (knownShape (shapeOf s)))
+      → Reported (countOf (pixelAt grid (y * z .width + x) .shape) + countOf (knownShape (shapeOf s)))
       (plateStep (mirror z room planes grid pile) (putIt x y v a s r) .report)
   unfolding plateStep
   put-reports pile kept x y v a s r =
@@ -73,13 +73,13 @@ module _ (z : Size) (room : ℕ) (planes : List ℕ) (grid : List Pixel) where
   undo-reports e pile kept = undo-agrees z room planes grid (e ∷ pile) kept .same-report
 
 -- 16 TO 40
-few : (s t : Shape) (r : Report) → Told (countOf s + countOf t) r → Few r
+few : (s t : Shape) (r : Report) → Reported (countOf s + countOf t) r → Few r
 few s t r h = record { if-accepted = λ e. rw (h .if-accepted e) (counts-few s t); if-refused = h .if-refused }
 
 undo-few : (z : Size) (room : ℕ) (grid : List Pixel) (pile : List Entry) → Few (bookUndoOf z room grid pile .report)
 unfolding bookUndoOf
 undo-few z room grid [] = record { if-accepted = λ e. absurd (omega arith); if-refused = λ d. refl }
-undo-few z room grid (e ∷ pile) = few (pixelAt grid (e .place) .shape) (e .pixel .shape) _ (told-accepted _)
+undo-few z room grid (e ∷ pile) = few (pixelAt grid (e .place) .shape) (e .pixel .shape) _ (reported-accepted _)
 
 fill-none : (c : Outcome) (b : Book) (o : Lens) (n : ℕ) (f : Inputs) → bookFillBy c b o n f .report .marks ≡ 0
 unfolding bookFillBy

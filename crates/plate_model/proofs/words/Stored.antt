@@ -24,12 +24,12 @@ pub record WordRead (R w : ℕ) : Type 0 where
   pub pixel : Pixel
   pub read : readWord R w ≡ Whole pixel
 
-abbrev pub WordTold : ℕ → ℕ → Type 0
-WordTold R w = (WordBroken R w × (readWord R w ≡ Broken)) ⊎ WordRead R w
+abbrev pub WordCases : ℕ → ℕ → Type 0
+WordCases R w = (WordBroken R w × (readWord R w ≡ Broken)) ⊎ WordRead R w
 
 -- a word of 32 bits that keeps a shape
 word-shaped : (R w : ℕ) (s : Shape) → w < 2 ^ wordBits → w / 2 ^ 20 % 16 < shapeCount → shapeOf (w / 2 ^ 20 % 16) ≡ Known s
-    → WordTold R w
+    → WordCases R w
 unfolding WordBroken RadiusAbove readWord
 word-shaped R w s low few e =
     by-lt (topUnder s R) (w / 2 ^ 24 % 256)
@@ -40,9 +40,9 @@ word-shaped R w s low few e =
       read = rw (lt-leb (2 ^ wordBits) w low, e, le-ltb (topUnder s R) (w / 2 ^ 24 % 256) h);
     }))
 
-pub word-told : (R w : ℕ) → WordTold R w
+pub word-cases : (R w : ℕ) → WordCases R w
 unfolding WordBroken readWord
-word-told R w =
+word-cases R w =
     by-lt w (2 ^ wordBits)
     (λ low. ⊎-elim
     (λ t. inl (inr (inl (t .0)), rw (lt-leb (2 ^ wordBits) w low, t .1)))
@@ -57,15 +57,15 @@ pub record EntryLogged (z : Size) (e : ℕ) : Type 0 where
   pub read : readEntry z e ≡ Logged entry
   pub place-is : entry .place ≡ placeIn e
 
-abbrev pub EntryTold : Size → ℕ → Type 0
-EntryTold z e = (EntryBroken z e × (readEntry z e ≡ Unreadable)) ⊎ EntryLogged z e
+abbrev pub EntryCases : Size → ℕ → Type 0
+EntryCases z e = (EntryBroken z e × (readEntry z e ≡ Unreadable)) ⊎ EntryLogged z e
 
 -- past the last place its row is past the last
 row-past : (i w h : ℕ) → 0 < w → w * h ≤ i → h ≤ i / w
 row-past i w h some p =
     by-lt (i / w) h (λ l. absurd (omega (arith, div-lt-iff-lt-mul {x = i} {y = h} some .0 l, mul-comm h w))) (λ l. l)
 
-entry-word : (z : Size) (e : ℕ) → LawfulSize z → placeIn e < places z → WordTold (z .reach) (e % 2 ^ wordBits) → EntryTold z e
+entry-word : (z : Size) (e : ℕ) → LawfulSize z → placeIn e < places z → WordCases (z .reach) (e % 2 ^ wordBits) → EntryCases z e
 unfolding EntryBroken readEntry
 entry-word z e lawful inside (inl t) = inl (inr (t .0), rw (lt-leb (places z) (placeIn e) inside, t .1))
 entry-word z e lawful inside (inr t) =
@@ -78,11 +78,11 @@ entry-word z e lawful inside (inr t) =
       place-is = refl;
     })
 
-pub entry-told : (z : Size) (e : ℕ) → LawfulSize z → EntryTold z e
+pub entry-cases : (z : Size) (e : ℕ) → LawfulSize z → EntryCases z e
 unfolding EntryBroken PlaceOutside readEntry
-entry-told z e lawful =
+entry-cases z e lawful =
     by-lt (placeIn e) (places z)
-    (λ inside. entry-word z e lawful inside (word-told (z .reach) (e % 2 ^ wordBits)))
+    (λ inside. entry-word z e lawful inside (word-cases (z .reach) (e % 2 ^ wordBits)))
     (λ past. inl (
       inl (inr (row-past (placeIn e) (z .width) (z .height) (lawful .width-some) past)),
       rw (le-leb (places z) (placeIn e) past),

@@ -11,7 +11,7 @@ use Rattle.plate_model.specs.Refusal.{putCheck}
 use Rattle.plate_model.specs.Asked.{askedPixel}
 use Rattle.plate_model.specs.Change.{putOver, putReadBy, putRead}
 use Rattle.plate_model.proofs.checks.Accepted.{PlateAccepted, plate-accepted, AskAccepted, ask-accepted}
-use Rattle.plate.proofs.laws.checks.Asked.{pixel-asked, pixel-not-asked}
+use Rattle.plate.proofs.laws.checks.Asked.{to-put, no-put}
 use Rattle.plate.proofs.change.read_put.Statement.{statement}
 use Rattle.plate.proofs.change.read_put.Tie as tie
 
@@ -28,7 +28,7 @@ begun c = start (c .before .before)
 
 passed : (c : tie.After-new) → let s = begun c in
     (putCheck (s .args .state) (s .args .ask) (held s) ≡ Accepted) × (askedPixel (s .args .ask) ≡ c .new .given .0 .0)
-passed c = pixel-asked _ _ _ (sym (c .before .before .check-put .ensures) ∙ c .new .given .1)
+passed c = to-put _ _ _ (sym (c .before .before .check-put .ensures) ∙ c .new .given .1)
 
 plate : (c : tie.After-new) → PlateAccepted (begun c .args .state) (held (begun c))
 unfolding putCheck
@@ -76,7 +76,7 @@ returns-3 c =
     let found = c .before in
     let s = start (found .before .before) in
     let refused = sym (found .before .before .check-put .ensures) ∙ found .why .given .1 in
-    rw (pixel-not-asked (putCheck (s .args .state) (s .args .ask) (held s)) _ _ refused)
+    rw (no-put (putCheck (s .args .state) (s .args .ask) (held s)) _ _ refused)
 
 pub read-put-spec : {M : Type 1} → statement M
 read-put-spec =

@@ -6,12 +6,12 @@ use Rattle.plate_model.specs.declared.word.Pixel.{Pixel}
 use Rattle.plate_model.specs.declared.state.Refusal.{Refusal}
 use Rattle.plate_model.specs.declared.state.Outcome.{Outcome}
 use Rattle.plate_model.specs.declared.state.Outcome.the-variants.{Accepted, Refused}
-use Rattle.plate.specs.Asking.{Asked, NotAsked, pixelBy}
+use Rattle.plate.specs.Asking.{ToPut, NoPut, pixelBy}
 
-pub pixel-asked : (o : Outcome) (p q : Pixel) → pixelBy o p ≡ Asked q → (o ≡ Accepted) × (p ≡ q)
-pixel-asked Accepted p q e = let same : p ≡ q = cc in (refl, same)
-pixel-asked (Refused f) p q e = let z : _≡_ {A = ℕ} 0 1 = cc in absurd (omega arith)
+pub to-put : (o : Outcome) (p q : Pixel) → pixelBy o p ≡ ToPut q → (o ≡ Accepted) × (p ≡ q)
+to-put Accepted p q e = let same : p ≡ q = cc in (refl, same)
+to-put (Refused f) p q e = let z : _≡_ {A = ℕ} 0 1 = cc in absurd (omega arith)
 
-pub pixel-not-asked : (o : Outcome) (p : Pixel) (f : Refusal) → pixelBy o p ≡ NotAsked f → o ≡ Refused f
-pixel-not-asked Accepted p f e = let z : _≡_ {A = ℕ} 0 1 = cc in absurd (omega arith)
-pixel-not-asked (Refused g) p f e = let same : g ≡ f = cc in ap Refused same
+pub no-put : (o : Outcome) (p : Pixel) (f : Refusal) → pixelBy o p ≡ NoPut f → o ≡ Refused f
+no-put Accepted p f e = let z : _≡_ {A = ℕ} 0 1 = cc in absurd (omega arith)
+no-put (Refused g) p f e = let same : g ≡ f = cc in ap Refused same

@@ -21,8 +21,8 @@ abbrev μ-loop : tie.MeasureT-loop
     length input - i
 
 -- where the test lets a byte in, and where there is room for its text
-abbrev roomy : tie.After-feed-arg7 Inv-loop μ-loop → tie.Else1 Inv-loop μ-loop
-roomy c = c .before .before .before .before .before .before .before .before
+abbrev hasRoom : tie.After-feed-arg7 Inv-loop μ-loop → tie.Else1 Inv-loop μ-loop
+hasRoom c = c .before .before .before .before .before .before .before .before
 
 abbrev inside : tie.Else1 Inv-loop μ-loop → tie.In-loop Inv-loop μ-loop
 inside c = c .before .before
@@ -37,7 +37,7 @@ returns c = reached-full (c .before .before .before .loop .inv .2) (omega (arith
 
 feed-requires : tie.Need-feed-requires Inv-loop μ-loop
 feed-requires c κs =
-    let room = roomy c in
+    let room = hasRoom c in
     let h = inside room in
     record {
       counted = omega (arith, consumed-is (h .before .loop .inv .2), h .loop-test .taken, h .before .before .before .good);
@@ -45,11 +45,11 @@ feed-requires c κs =
     }
 
 add-i : tie.Need-add-i Inv-loop μ-loop
-add-i c = let h = inside (roomy (c .before)) in omega (arith, h .loop-test .taken, h .before .before .before .good)
+add-i c = let h = inside (hasRoom (c .before)) in omega (arith, h .loop-test .taken, h .before .before .before .good)
 
 loop-again : tie.Need-loop-again Inv-loop μ-loop
 loop-again c =
-    let room = roomy (c .before) in
+    let room = hasRoom (c .before) in
     let h = inside room in
     let l = h .before .loop in
     let long = c .before .feed-arg7 .given .0 in
