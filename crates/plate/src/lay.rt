@@ -38,7 +38,7 @@ pub struct Origin {
     pub corner: usize,
 }
 
-// The worth that wraps to 0 with w.
+// The amounts that wrap to 0 with w.
 pub(crate) fn opposite(w: Amounts) -> Amounts
     ensures { λ r. ⌜ r ≡ times w (minus 1) ⌝ }
 {
@@ -48,7 +48,7 @@ pub(crate) fn opposite(w: Amounts) -> Amounts
     }
 }
 
-// What two marks of worth w add.
+// What two marks of w each add.
 fn twice(w: Amounts) -> Amounts
     ensures { λ r. ⌜ r ≡ times w 2 ⌝ }
 {
@@ -58,7 +58,7 @@ fn twice(w: Amounts) -> Amounts
     }
 }
 
-// What three marks of worth w add.
+// What three marks of w each add.
 fn thrice(w: Amounts) -> Amounts
     ensures { λ r. ⌜ r ≡ times w 3 ⌝ }
 {

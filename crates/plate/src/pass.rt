@@ -23,8 +23,8 @@ const FALL_ONE: usize = LEVEL + 1;
 
 const FALL_TWO: usize = LEVEL + 2;
 
-// A channel to be summed: how many columns of its planes, the cells in a row and the rows of a plane, and where its sums start
-// in the scratch and its marks in the planes.
+// A channel to be summed, light or matte: how many columns of its planes, the cells in a row and the rows of a plane, and where
+// its sums start in the scratch and its marks in the planes.
 pub(crate) struct Channel {
     pub columns: usize,
     pub wide: usize,
