@@ -2,7 +2,8 @@
 -- the definitions compute to it.
 use mathlib.Core.Path.{_≡_}
 use mathlib.Core.List.{List, [], _∷_}
-use Prim.Native.Nat.{ℕ, zero, suc, _+_, _*_}
+use Prim.Native.Nat.{ℕ, _+_, _*_}
+use Rattle.kernels_model.specs.Listed.{listTo}
 use Rattle.kernels_model.specs.Sum.{dist}
 use Rattle.kernels_model.specs.Shape.{Shape, Box, Tent, Diamond, Hexagon, Octagon, reachOf}
 use Rattle.kernels_model.specs.Tap.{tap}
@@ -12,16 +13,11 @@ use Rattle.kernels_model.specs.Mark.{mark, tapMarks, marks}
 abbrev pub minusOne : ℕ
 minusOne = 18446744073709551615
 
--- the n values f k, f (k + 1), ..
-unfoldable pub valuesFrom : {A : Type 0} → (ℕ → A) → ℕ → ℕ → List A
-valuesFrom f k zero = []
-valuesFrom f k (suc n) = f k ∷ valuesFrom f (suc k) n
-
 -- the taps of a kernel, row by row from the top, over the square of cells that it reaches
 unfoldable pub tapRows : Shape → ℕ → List (List ℕ)
 tapRows s r =
     let side = 2 * reachOf s r + 1 in
-    valuesFrom (λ y. valuesFrom (λ x. tap s r (dist x (reachOf s r)) (dist y (reachOf s r))) 0 side) 0 side
+    listTo (λ y. listTo (λ x. tap s r (dist x (reachOf s r)) (dist y (reachOf s r))) side) side
 
 -- The marks are those of a kernel around column 10 and row 20; a mark is written as plane, column, row and coefficient. The
 -- planes, from 0 on: "slopes −2, −1, 0, 1, 2, second box, third box".

@@ -1,5 +1,6 @@
 pub mod Fixed
 pub mod Choice
+pub mod Listed
 pub mod NumberAndValue
 pub mod Rows
 pub mod Sum

@@ -22,7 +22,7 @@ use Rattle.plate_model.specs.declared.state.Outcome.the-variants.{Accepted, Ref
 use Rattle.plate_model.specs.Refusal.{sizesCheck, lentCheck, inputsCheck, countCheck, layerCheck, fillCheck}
 use Rattle.plate_model.specs.Asked.{knownShape, filled}
 use Rattle.plate_model.specs.Marks.{pixelMarks, layAll, layGrid}
-use Rattle.plate_model.specs.Listed.{zeros, listTo}
+use Rattle.kernels_model.specs.Listed.{zeros, listTo}
 use Rattle.plate.specs.Frame.{frameOf}
 pub use Rattle.plate.specs.declared.layer.Layer.{Layer}
 pub use Rattle.plate.specs.declared.layer.LayerRead.{LayerRead}

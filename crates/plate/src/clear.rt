@@ -1,7 +1,7 @@
 // Setting cells to 0.
 ghost use mathlib.Core.Path.{_≡_};
 ghost use lib.ListN.{length};
-ghost use Rattle.plate_model.specs.Listed.{zeros};
+ghost use Rattle.kernels_model.specs.Listed.{zeros};
 
 // Every cell set to 0.
 pub(crate) fn clear(cells: &mut [u64])

@@ -29,7 +29,7 @@ ghost use Rattle.kernels_model.specs.Share.{shareTable};
 ghost use Rattle.plate_model.specs.Layout.{places};
 ghost use Rattle.plate_model.specs.Lent.{stateOf, inputs};
 ghost use Rattle.plate_model.specs.declared.state.Outcome.the-variants.{Accepted};
-ghost use Rattle.plate_model.specs.Listed.{zeros};
+ghost use Rattle.kernels_model.specs.Listed.{zeros};
 ghost use Rattle.plate_model.specs.Calls.{answerOf};
 ghost use Rattle.plate_model.specs.Table.{LawfulSize};
 ghost use Rattle.plate.specs.Filling.{layerOf, inputsRead, layerRead, layerSize, pixelFrom, Layable, GivenAt, Ready};

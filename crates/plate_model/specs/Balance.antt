@@ -10,7 +10,7 @@ use Rattle.plate_model.specs.Layout.{Size, padded, places}
 use Rattle.plate_model.specs.Lent.{Lent, lengthsOf}
 use Rattle.plate_model.specs.Word.{Pixel}
 use Rattle.plate_model.specs.Refusal.{Accepted, openCheck}
-use Rattle.plate_model.specs.Listed.{zeros}
+use Rattle.kernels_model.specs.Listed.{zeros}
 use Rattle.plate_model.specs.Calls.{answerOf, openCall}
 use Rattle.plate_model.specs.Plain.{pixelAt, lightOf, matteOf}
 use Rattle.plate_model.specs.Notebook.{openBook}

@@ -16,7 +16,7 @@ use Rattle.plate_model.specs.Refusal.{Answer, Returned, returned, Refusa
 use Rattle.plate_model.specs.Refusal.{showCheck}
 use Rattle.plate_model.specs.Asked.{knownShape, filled}
 use Rattle.plate_model.specs.Change.{Change, ChangeRead, ToChange, NoChange, putRead, undoRead}
-use Rattle.plate_model.specs.Listed.{zeros, listTo}
+use Rattle.kernels_model.specs.Listed.{zeros, listTo}
 use Rattle.plate_model.specs.Marks.{exchanged, layGrid}
 
 -- what a call returns, in the paper's numbers, and what it leaves of planes, pixels and log

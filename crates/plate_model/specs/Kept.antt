@@ -15,7 +15,7 @@ use Rattle.plate_model.specs.Word.{Pixel}
 use Rattle.plate_model.specs.Kernel.{tapOf}
 use Rattle.plate_model.specs.Refusal.{Answer, Outcome, Accepted, Refused, keptCheck, showKeptCheck}
 use Rattle.plate_model.specs.Change.{Change, ChangeRead, ToChange, NoChange, putRead, undoRead}
-use Rattle.plate_model.specs.Listed.{listTo}
+use Rattle.kernels_model.specs.Listed.{listTo}
 use Rattle.plate_model.specs.Calls.{Left, leaves, putBy, undoBy, sumAt, Shown, shows, showBy}
 use Rattle.plate_model.specs.Plain.{lightOf, matteOf, weightAt}
 

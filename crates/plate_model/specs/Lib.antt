@@ -1,7 +1,6 @@
 pub mod Fixed
 pub mod Layout
 pub mod Lent
-pub mod Listed
 pub mod Word
 pub mod Kernel
 pub mod Asked

@@ -11,7 +11,7 @@ use Rattle.plate_model.specs.Refusal.{Outcome, Accepted, Refused, LogEmp
 use Rattle.plate_model.specs.Refusal.{layerCheck, viewsCheck, sumsCheck, canvasCheck}
 use Rattle.plate_model.specs.Lent.{Ask, Inputs, Views, Canvas}
 use Rattle.plate_model.specs.Asked.{askedPlace, askedPixel, knownShape, filled}
-use Rattle.plate_model.specs.Listed.{listTo, zeros}
+use Rattle.kernels_model.specs.Listed.{listTo, zeros}
 use Rattle.plate_model.specs.Plain.{pixelAt, plainValues, plainMattes}
 
 -- room is the log's length; the top of the pile comes first

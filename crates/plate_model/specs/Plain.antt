@@ -8,7 +8,7 @@ use Rattle.plate_model.specs.Layout.{Size, places}
 use Rattle.plate_model.specs.Word.{Pixel, empty}
 use Rattle.plate_model.specs.Kernel.{weightOf}
 use Rattle.plate_model.specs.Marks.{pixelMarks, onCell}
-use Rattle.plate_model.specs.Listed.{listTo}
+use Rattle.kernels_model.specs.Listed.{listTo}
 
 abbrev pub pixelAt : List Pixel → ℕ → Pixel
 pixelAt grid i = getD grid i empty

@@ -6,7 +6,7 @@ use lib.ListN.{length}
 use Rattle.plate_model.specs.Layout.{Size, sumsInAll}
 use Rattle.plate_model.specs.Lent.{Lent, lengthsOf, Views, views}
 use Rattle.plate_model.specs.Refusal.{Accepted, openCheck, viewsCheck}
-use Rattle.plate_model.specs.Listed.{zeros}
+use Rattle.kernels_model.specs.Listed.{zeros}
 use Rattle.plate_model.specs.Calls.{answerOf, openCall}
 use Rattle.plate_model.specs.Kept.{showsKept, showKeptCall}
 use Rattle.plate_model.specs.Plain.{lightOf, matteOf, plainSum, plainSums, plainValues, plainMattes}

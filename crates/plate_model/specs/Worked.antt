@@ -10,7 +10,7 @@ use Rattle.kernels_model.specs.declared.lens.Lens.{Lens}
 use Rattle.plate_model.specs.Layout.{Size, sizeFrom}
 use Rattle.plate_model.specs.Word.{wordOf}
 use Rattle.plate_model.specs.Lent.{Lent, lentLengths, lengthsOf, Views, views}
-use Rattle.plate_model.specs.Listed.{zeros}
+use Rattle.kernels_model.specs.Listed.{zeros}
 use Rattle.plate_model.specs.Calls.{openCall}
 use Rattle.plate_model.specs.Plain.{gridCell}
 use Rattle.plate_model.specs.Notebook.{openBook, both, Report, plain, logOf}

@@ -15,7 +15,7 @@ use Rattle.plate_model.specs.declared.state.State.{State}
 use Rattle.plate_model.specs.Refusal.{Returned}
 use Rattle.plate_model.specs.declared.lent.Ask.{Ask}
 use Rattle.plate_model.specs.Lent.{Lent, lent, Views, views, Borrowed}
-use Rattle.plate_model.specs.Listed.{zeros}
+use Rattle.kernels_model.specs.Listed.{zeros}
 use Rattle.plate_model.specs.Calls.{Left, openCall, putCall, undoCall, Shown, showCall}
 use Rattle.plate_model.specs.Lists.{Byte, codes}
 use Rattle.records_model.specs.Fixed.{cellsTop, planesRoom, scratchRoom, logRoom, longestBody, fullFrom}

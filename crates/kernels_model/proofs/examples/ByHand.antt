@@ -5,10 +5,11 @@ use Rattle.kernels_model.specs.Sum.{sum}
 use Rattle.kernels_model.specs.Tap.{tap, octagonTap, area, shareFor, restFor}
 use Rattle.kernels_model.specs.Mark.{minus, sign, choose, marksTo, boxGrid, boxMarks, lineMarks, flipped, outlineMarks}
 use Rattle.kernels_model.specs.Mark.{diamondMarks, hexagonMarks, octagonMarks, tapMarks, scaled, centreMarks, marks}
-use Rattle.kernels_model.specs.Examples.{valuesFrom, tapRows, ByHand}
+use Rattle.kernels_model.specs.Listed.{listTo}
+use Rattle.kernels_model.specs.Examples.{tapRows, ByHand}
 
 pub by-hand : ByHand
-unfolding valuesFrom tapRows within same sum tap octagonTap area shareFor restFor minus sign choose marksTo boxGrid boxMarks
+unfolding listTo tapRows within same sum tap octagonTap area shareFor restFor minus sign choose marksTo boxGrid boxMarks
     lineMarks flipped outlineMarks diamondMarks hexagonMarks octagonMarks tapMarks scaled centreMarks marks
 by-hand =
     record {

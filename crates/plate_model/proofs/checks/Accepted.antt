@@ -1,6 +1,7 @@
--- What a call may count on when its check accepts: the plate, what a put asks for, and a layer.
-use mathlib.Core.Path.{_≡_}
+-- What a call may count on when its check accepts: the plate, what a put asks for, and a layer; and what a show returns then.
+use mathlib.Core.Path.{_≡_, refl}
 use mathlib.Core.Bool.{true}
+use mathlib.Core.List.{List}
 use Prim.Native.Nat.{ℕ, _≤_, _<_}
 use lib.ListN.{getD}
 use Rattle.kernels_model.specs.declared.shape.ShapeRead.the-variants.{Known}
@@ -9,9 +10,10 @@ use Rattle.kernels_model.specs.declared.lens.Lens.{Lens}
 use Rattle.kernels_model.specs.Lens.{lawfulLens}
 use Rattle.kernels_model.specs.Fixed.{valueTop, depthTop}
 use Rattle.plate_model.specs.Layout.{Size, places}
-use Rattle.plate_model.specs.Lent.{State, LentLengths, Ask, Inputs}
+use Rattle.plate_model.specs.Lent.{State, LentLengths, Ask, Inputs, Views}
 use Rattle.plate_model.specs.Refusal.{Outcome, Accepted, Value, Depth, sizesCheck, lentCheck, askCheck, layerCheck}
-use Rattle.plate_model.specs.Refusal.{plateCheck, emptyCheck}
+use Rattle.plate_model.specs.Refusal.{plateCheck, emptyCheck, Refused, outcomeNumber}
+use Rattle.plate_model.specs.Calls.{showBy}
 use Rattle.plate_model.specs.Asked.{askedPlace, knownShape, askedPixel}
 use Rattle.plate_model.specs.Table.{LawfulSize, LentFor}
 use Rattle.plate_model.specs.Word.{Fits}
@@ -96,3 +98,9 @@ layer-accepted o k f e =
     let q3 = check-passed (lens-checks o) _ (q2 .1) in
     let q4 = check-passed (above-checks Depth depthTop (f .depths)) _ (q3 .1) in
     record { values-in = q1 .0; lens-lawful = q3 .0; depths-in = q4 .0 }
+
+-- a show returns the number of its check
+pub show-returns : (o : Outcome) (s : State) (planes : List ℕ) (v : Views) → showBy o s planes v .answer .number ≡ outcomeNumber o
+unfolding showBy
+show-returns Accepted s planes v = refl
+show-returns (Refused f) s planes v = refl

@@ -17,7 +17,7 @@ use Rattle.plate_model.specs.Lent.{stateOf}
 use Rattle.plate_model.specs.Word.{Pixel, Entry}
 use Rattle.plate_model.specs.Kernel.{weightOf}
 use Rattle.plate_model.specs.Refusal.{Accepted, totalCheck}
-use Rattle.plate_model.specs.Listed.{zeros}
+use Rattle.kernels_model.specs.Listed.{zeros}
 use Rattle.plate_model.specs.Calls.{answerOf}
 use Rattle.plate_model.specs.Plain.{pixelAt, lightOf, matteOf, gridCell}
 use Rattle.plate_model.specs.Total.{heldFrom, totalled, totalsOf, totalBy, totalCall}

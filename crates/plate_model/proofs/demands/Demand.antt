@@ -13,7 +13,7 @@ use Rattle.plate_model.specs.Refusal.{Refusal, Lengths, Outcome, Accepte
 use Rattle.plate_model.specs.Refusal.{showCheck, keptCheck, showKeptCheck}
 use Rattle.plate_model.specs.Change.{ChangeRead, NoChange}
 use Rattle.plate_model.specs.Lent.{stateOf, Lent, lengthsOf, Views, Canvas, Ask, ask, inputs}
-use Rattle.plate_model.specs.Listed.{zeros, listTo}
+use Rattle.kernels_model.specs.Listed.{zeros, listTo}
 use Rattle.plate_model.specs.Calls.{Left, refused, answerOf, putBy, putCall, undoBy, undoCall, sumAt, shown, showBy}
 use Rattle.plate_model.specs.Calls.{showCall, openCall}
 use Rattle.plate_model.specs.Kept.{keptRead, canvasFirst, putKeptBy, putKeptCall, undoKeptBy, undoKeptCall, showKeptBy}

@@ -5,7 +5,7 @@ use Prim.Native.Nat.{ℕ}
 use lib.ListN.{length, replicate}
 use Rattle.plate_model.specs.Layout.{Size, places}
 use Rattle.plate_model.specs.Word.{Pixel, empty, Entry}
-use Rattle.plate_model.specs.Listed.{zeros}
+use Rattle.kernels_model.specs.Listed.{zeros}
 use Rattle.plate_model.specs.Notebook.{Book, bookOf, Report}
 use Rattle.plate_model.specs.Lists.{Call, bookStep, bookReports}
 use Rattle.plate_model.specs.EachReport.{EachReport, InLists}

@@ -24,7 +24,7 @@ use Rattle.plate_model.specs.Lent.{canvas}
 use Rattle.plate_model.specs.Word.{Pixel}
 use Rattle.plate_model.specs.Marks.{pixelMarks, layAll, exchanged}
 use Rattle.plate_model.specs.Change.{Change}
-use Rattle.plate_model.specs.Listed.{listTo}
+use Rattle.kernels_model.specs.Listed.{listTo}
 use Rattle.plate_model.specs.Calls.{stored, sumAt}
 use Rattle.plate_model.specs.Plain.{lightOf, matteOf, weightAt}
 use Rattle.plate_model.specs.Kept.{inReach, inReachOr, mendedSum, keptLight, keptMatte, mendedLight, mendedMatte, mended}

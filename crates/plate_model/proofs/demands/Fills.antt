@@ -16,7 +16,7 @@ use Rattle.plate_model.specs.Word.{Pixel, empty, wordOf, Entry}
 use Rattle.plate_model.specs.Refusal.{Outcome, Accepted, Refused, inputsCheck, layerCheck, openCheck, fillCheck, fillFirst}
 use Rattle.plate_model.specs.Lent.{stateOf, Lent, lent, lengthsOf, Inputs}
 use Rattle.plate_model.specs.Marks.{inBoth, pixelMarks, layGrid, onCell}
-use Rattle.plate_model.specs.Listed.{zeros, listTo}
+use Rattle.kernels_model.specs.Listed.{zeros, listTo}
 use Rattle.plate_model.specs.Asked.{filled, knownShape}
 use Rattle.plate_model.specs.Calls.{fillBy, fillCall, openBy, openCall}
 use Rattle.plate_model.specs.Plain.{gridCell}

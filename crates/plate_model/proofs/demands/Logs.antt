@@ -6,7 +6,7 @@ use native.Mathlib.Omega.{arith}
 use lib.ListN.{getD, set, length, length-set, length-replicate, length-append}
 use lib.Seq.{getD-set-same, getD-set-other, set-set, set-getD, set-at, append-snoc}
 use Rattle.plate_model.specs.Word.{Entry, entryOf}
-use Rattle.plate_model.specs.Listed.{zeros}
+use Rattle.kernels_model.specs.Listed.{zeros}
 use Rattle.plate_model.specs.Notebook.{fromBottom, logOf}
 use Rattle.plate_model.proofs.numbers.Lists.{getD-zeros}
 

@@ -12,7 +12,7 @@ use Rattle.plate_model.specs.Marks.{exchanged}
 use Rattle.plate_model.specs.Refusal.{Refusal, Outcome, Accepted, Refused, outcomeNumber, canvasCheck, openCheck, showCheck}
 use Rattle.plate_model.specs.Refusal.{showKeptCheck, keptCheck}
 use Rattle.plate_model.specs.Change.{Change, ChangeRead, ToChange, NoChange}
-use Rattle.plate_model.specs.Listed.{listTo}
+use Rattle.kernels_model.specs.Listed.{listTo}
 use Rattle.plate_model.specs.Calls.{openCall, changed, putBy, putCall, undoBy, undoCall, sumAt, showBy}
 use Rattle.plate_model.specs.Plain.{plainSums, plainValues, plainMattes}
 use Rattle.plate_model.specs.Notebook.{openBook}
@@ -25,6 +25,7 @@ use Rattle.plate_model.specs.Table.{LawfulSize}
 use Rattle.plate_model.specs.Ready.{Changeable}
 use Rattle.plate_model.proofs.numbers.Lists.{length-listTo}
 use Rattle.plate_model.proofs.checks.Rows.{accepted-numbered, check-passes}
+use Rattle.plate_model.proofs.checks.Accepted.{show-returns}
 use Rattle.plate_model.proofs.checks.Passed.{sizes-passed, sizes-pass}
 use Rattle.plate_model.proofs.checks.Conditions.{canvas-checks}
 use Rattle.plate_model.proofs.changing.Changes.{no-change, put-ready, undo-ready}
@@ -118,12 +119,6 @@ unfolding paintAll
 paints-kept p [] e = e
 paints-kept p (d ∷ changes) e = paints-kept (paint p d) changes (paint-fresh p d e)
 
--- a show's number is that of its check
-check-shown : (o : Outcome) (s : State) (planes : List ℕ) (v : Views) → showBy o s planes v .answer .number ≡ outcomeNumber o
-unfolding showBy
-check-shown Accepted s planes v = refl
-check-shown (Refused f) s planes v = refl
-
 -- where a show of the second form is accepted, its check accepted
 abbrev keptChecked : State → List ℕ → Views → List ℕ → Outcome
 keptChecked s planes v sums =
@@ -132,7 +127,7 @@ keptChecked s planes v sums =
 kept-checked : (s : State) (planes : List ℕ) (v : Views) (sums : List ℕ)
     → showKeptCall s planes v sums .call .answer .number ≡ 0 → keptChecked s planes v sums ≡ Accepted
 unfolding showKeptCall showKeptBy
-kept-checked s planes v sums e = accepted-numbered _ (sym (check-shown _ s planes v) ∙ e)
+kept-checked s planes v sums e = accepted-numbered _ (sym (show-returns _ s planes v) ∙ e)
 
 -- it leaves the state, and writes the plate's sums and pictures
 kept-shown : (s : State) (planes : List ℕ) (v : Views) (sums : List ℕ) →
@@ -167,10 +162,10 @@ same-answer : (p q : Plate) (v v' : Views) (sums sums' : List ℕ) → StillAs p
     ≡ showKeptCall (p .state) (p .buffers .planes) v sums .call .answer .number
 unfolding showKeptCall showKeptBy
 same-answer p q v v' sums sums' still much =
-    check-shown _ (q .state) (q .buffers .planes) v'
+    show-returns _ (q .state) (q .buffers .planes) v'
     ∙ rw (still .1, much .of-scratch, much .of-values, much .of-mattes, much .of-sums)
     (ap outcomeNumber (same-check (p .state) (q .state) (still .0) _ _ _ _ _))
-    ∙ sym (check-shown _ (p .state) (p .buffers .planes) v)
+    ∙ sym (show-returns _ (p .state) (p .buffers .planes) v)
 
 pub paints-fresh : PaintsFresh
 paints-fresh p v sums changes e v' sums' much =

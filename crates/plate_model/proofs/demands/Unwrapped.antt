@@ -7,7 +7,7 @@ use Rattle.plate_model.specs.Layout.{Size, sumsInAll}
 use Rattle.plate_model.specs.Word.{Pixel, Entry}
 use Rattle.plate_model.specs.Lent.{stateOf, Views, views}
 use Rattle.plate_model.specs.Refusal.{Accepted, viewsCheck, showKeptCheck}
-use Rattle.plate_model.specs.Listed.{zeros}
+use Rattle.kernels_model.specs.Listed.{zeros}
 use Rattle.plate_model.specs.Calls.{answerOf, showBy}
 use Rattle.plate_model.specs.Kept.{sumsOf, sumsBy, showsKept, showKeptBy, showKeptCall}
 use Rattle.plate_model.specs.Plain.{plainSums, plainValues, plainMattes}

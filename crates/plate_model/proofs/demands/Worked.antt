@@ -12,7 +12,7 @@ use Rattle.plate_model.specs.Layout.{Size}
 use Rattle.plate_model.specs.Refusal.{Accepted, refuseIf, sizesCheck, lentCheck, placeCheck, shapeCheck, radiusCheck}
 use Rattle.plate_model.specs.Refusal.{askCheck, viewsCheck, openCheck}
 use Rattle.plate_model.specs.Lent.{Lent, lent, lengthsOf, Views, views}
-use Rattle.plate_model.specs.Listed.{zeros, listTo}
+use Rattle.kernels_model.specs.Listed.{zeros, listTo}
 use Rattle.plate_model.specs.Calls.{openCall}
 use Rattle.plate_model.specs.Plain.{plainSum, plainValues, plainMattes}
 use Rattle.plate_model.specs.Notebook.{openBook, both, Report, plain, bookPutBy, bookPut, bookUndoOf, bookUndo, bookShowBy}

@@ -17,7 +17,7 @@ use Rattle.plate_model.specs.Word.{wordOf}
 use Rattle.plate_model.specs.Refusal.{Accepted, refuseIf, sizesCheck, lentCheck, placeCheck, shapeCheck, radiusCheck}
 use Rattle.plate_model.specs.Refusal.{askCheck, inputsCheck, layerCheck, anyOf, isBetween, viewsCheck, openCheck}
 use Rattle.plate_model.specs.Lent.{Lent, LentLengths, lentLengths, lengthsOf}
-use Rattle.plate_model.specs.Listed.{listTo}
+use Rattle.kernels_model.specs.Listed.{listTo}
 use Rattle.plate_model.specs.Asked.{filled}
 use Rattle.plate_model.specs.Calls.{openCall}
 use Rattle.plate_model.specs.Marks.{inBoth, pixelMarks, onCell}

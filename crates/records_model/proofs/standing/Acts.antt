@@ -13,7 +13,7 @@ use Rattle.plate_model.specs.declared.state.Outcome.the-variants.{Accepted, Ref
 use Rattle.plate_model.specs.declared.state.Refusal.the-variants.{Sizes as BadSizes}
 use Rattle.plate_model.specs.Refusal.{refuseIf, sizesCheck, lentCheck, openCheck}
 use Rattle.plate_model.specs.Lent.{stateOf, lengthsOf}
-use Rattle.plate_model.specs.Listed.{zeros}
+use Rattle.kernels_model.specs.Listed.{zeros}
 use Rattle.plate_model.specs.Calls.{openBy, openCall, putCall, undoCall}
 use Rattle.plate_model.specs.Word.{empty}
 use Rattle.plate_model.specs.Lists.{Plate, leftBy}

@@ -8,7 +8,7 @@ use borrow.Author.Tests.{lt-ltb, le-ltb}
 use lib.Dec.{lit<}
 use lib.ListN.{length, take, drop, set, length-set, length-drop, length-map, length-replicate}
 use Rattle.kernels_model.proofs.numbers.Choices.{by-lt}
-use Rattle.plate_model.specs.Listed.{zeros}
+use Rattle.kernels_model.specs.Listed.{zeros}
 use Rattle.plate_model.specs.Notebook.{Book}
 use Rattle.plate_model.specs.Lists.{Byte, codes}
 use Rattle.records_model.specs.Record.{Kind, Bytes, NoKind, bodyLength, recordOf, next, withBody, itemsBy, itemsOf}

@@ -8,7 +8,7 @@ use Rattle.kernels_model.specs.Sum.{sum}
 use Rattle.kernels_model.specs.Tap.{tap, area, shareFor, restFor, weight}
 use Rattle.kernels_model.specs.Rounding.{nearest, nearestEven, shownValue, shownMatte}
 use Rattle.plate_model.specs.Refusal.{refuseIf, sizesCheck, placeCheck, shapeCheck, radiusCheck, askCheck}
-use Rattle.plate_model.specs.Listed.{listTo}
+use Rattle.kernels_model.specs.Listed.{listTo}
 use Rattle.plate_model.specs.Plain.{plainSum, plainValues, plainMattes}
 use Rattle.plate_model.specs.Notebook.{bookPutBy, bookPut, bookUndoOf, bookUndo, bookShowBy}
 use Rattle.plate_model.specs.Lists.{Byte, codes}

@@ -24,7 +24,7 @@ use Rattle.plate_model.specs.declared.state.Outcome.the-variants.{Accepted, Ref
 use Rattle.plate_model.specs.Refusal.{layerCheck, fillCheck}
 use Rattle.plate_model.specs.Asked.{knownShape, filled}
 use Rattle.plate_model.specs.Marks.{pixelMarks, layAll, layGrid}
-use Rattle.plate_model.specs.Listed.{listTo}
+use Rattle.kernels_model.specs.Listed.{listTo}
 use Rattle.plate_model.specs.Calls.{left, answerOf, refused, fillBy, fillCall}
 use Rattle.plate.specs.Filling.{Layer, ToFill, NoFill, readBy, layerRead, layerSize, pixelOf, pixelFrom, Ready, FilledTo}
 use Rattle.plate.specs.Filling.{Refilled, fillLengths, inputsRead, layerOf}

@@ -16,7 +16,7 @@ use Rattle.plate_model.specs.declared.size.Size.{Size}
 use Rattle.plate_model.specs.Layout.{places, sumsInAll, matteFrom}
 use Rattle.plate_model.specs.Lent.{Canvas, canvas}
 use Rattle.plate_model.specs.declared.change.Change.{Change}
-use Rattle.plate_model.specs.Listed.{listTo}
+use Rattle.kernels_model.specs.Listed.{listTo}
 use Rattle.plate_model.specs.Plain.{lightOf, matteOf}
 use Rattle.plate_model.specs.Kept.{inReach, inReachOr, mendedSum, keptLight, keptMatte, mendedLight, mendedMatte, mended}
 use Rattle.plate.specs.Mending.{Given, GivenIn, lightThen, matteThen, CellDone, CellMended, CellSame, MendedWhere}

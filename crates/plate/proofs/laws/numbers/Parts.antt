@@ -6,7 +6,7 @@ use native.Mathlib.Omega.{arith}
 use lib.ListN.{length, getD, take, length-replicate, getD-replicate, List·getD-append}
 use lib.Seq.{length-take-le, getD-append-add, getD-take, getD-drop}
 use borrow.Rule.Slice.PartMut.{midOf, postOf, putMid, same-len-mid, mid-len}
-use Rattle.plate_model.specs.Listed.{zeros}
+use Rattle.kernels_model.specs.Listed.{zeros}
 
 -- the cells from a on, up to e
 module _ (s ys : List ℕ) (a e : ℕ) (low : a ≤ e) (top : e ≤ length s) (none : ys ≡ zeros (length (midOf a (e - a) s))) where

@@ -18,7 +18,7 @@ use Rattle.plate_model.specs.declared.state.State.{State}
 use Rattle.plate_model.specs.Lent.{views}
 use Rattle.plate_model.specs.declared.state.Outcome.the-variants.{Accepted}
 use Rattle.plate_model.specs.Refusal.{showCheck}
-use Rattle.plate_model.specs.Listed.{zeros, listTo}
+use Rattle.kernels_model.specs.Listed.{zeros, listTo}
 use Rattle.plate_model.specs.Calls.{stored, sumAt, shown, answerOf, showBy}
 use Rattle.plate.specs.Passes.{Channel, planesIn, slopeSums, downFrom, sumsEnd, matteAfter, SummedTo}
 use Rattle.plate.specs.Showing.{Image, lightChannel, BothIn, BothTo, BothSummed, RowShown, sumIn, ShownTo, TotalReady}

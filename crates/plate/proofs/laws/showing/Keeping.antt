@@ -11,7 +11,7 @@ use Rattle.plate_model.specs.declared.state.State.{State}
 use Rattle.plate_model.specs.Lent.{views}
 use Rattle.plate_model.specs.declared.state.Outcome.the-variants.{Accepted}
 use Rattle.plate_model.specs.Refusal.{showKeptCheck}
-use Rattle.plate_model.specs.Listed.{zeros}
+use Rattle.kernels_model.specs.Listed.{zeros}
 use Rattle.plate_model.specs.Calls.{sumAt, answerOf}
 use Rattle.plate_model.specs.Kept.{sumsOf, sumsBy, showsKept, showKeptBy}
 use Rattle.plate.specs.Passes.{Channel, matteAfter, rowStart}

@@ -14,7 +14,7 @@ use Rattle.plate_model.specs.Layout.{wide, high, padded}
 use Rattle.plate_model.specs.declared.state.State.{State}
 use Rattle.plate_model.specs.declared.state.Outcome.the-variants.{Accepted}
 use Rattle.plate_model.specs.Refusal.{totalCheck}
-use Rattle.plate_model.specs.Listed.{zeros}
+use Rattle.kernels_model.specs.Listed.{zeros}
 use Rattle.plate_model.specs.Calls.{answerOf}
 use Rattle.plate_model.specs.Total.{heldFrom, totalsOf, totalled, totalBy}
 use Rattle.plate.specs.Frame.{Frame, frameOf}

@@ -14,12 +14,12 @@ use Rattle.plate_model.specs.Fixed.{planesInAll, border}
 use Rattle.plate_model.specs.Layout.{wide, high, padded}
 use Rattle.plate_model.specs.declared.size.Size.{Size}
 use Rattle.plate_model.specs.declared.state.State.{State}
-use Rattle.plate_model.specs.declared.state.Outcome.{Outcome}
-use Rattle.plate_model.specs.declared.state.Outcome.the-variants.{Accepted, Refused}
-use Rattle.plate_model.specs.Refusal.{Returned, outcomeNumber, showCheck}
+use Rattle.plate_model.specs.declared.state.Outcome.the-variants.{Accepted}
+use Rattle.plate_model.specs.Refusal.{Returned, showCheck}
 use Rattle.plate_model.specs.Lent.{Views}
-use Rattle.plate_model.specs.Calls.{showBy, showCall}
+use Rattle.plate_model.specs.Calls.{showCall}
 use Rattle.plate_model.proofs.checks.Rows.{accepted-numbered}
+use Rattle.plate_model.proofs.checks.Accepted.{show-returns}
 use Rattle.plate_model.proofs.checks.Passed.{sizes-passed, length-passed}
 use Rattle.records_model.specs.Fixed.{cellsTop, planesRoom, textRoom}
 use Rattle.records_model.specs.declared.record.Stop.{Stop}
@@ -32,18 +32,13 @@ use Rattle.records_model.specs.Machine.{planeCells, viewsFront, showRequested, 
 use Rattle.records_model.proofs.lending.Rooms.{no-room, cells-within}
 use Rattle.records.specs.Room.{lineRoom, rowsRoom, FewCells}
 
-number-is : (o : Outcome) (s : State) (planes : List ℕ) (v : Views) → showBy o s planes v .answer .number ≡ outcomeNumber o
-unfolding showBy
-number-is Accepted s planes v = refl
-number-is (Refused f) s planes v = refl
-
 -- the planes of an accepted show are as long as the plate's cells
 lent-cells : (s : State) (planes : List ℕ) (v : Views) → showCall s planes v .answer .number ≡ 0
     → length planes ≡ planesInAll * padded (s .size)
 unfolding showCall showCheck
 lent-cells s planes v e =
     let check = showCheck s (length planes) (length (v .scratch)) (length (v .values)) (length (v .mattes)) in
-    let yes : check ≡ Accepted = accepted-numbered check (sym (number-is check s planes v) ∙ e) in
+    let yes : check ≡ Accepted = accepted-numbered check (sym (show-returns check s planes v) ∙ e) in
     let lengths = sizes-passed (s .size) _ yes .1 in
     length-passed (length planes) (planesInAll * padded (s .size)) _ lengths .0
 
