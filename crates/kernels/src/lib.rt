@@ -1,4 +1,6 @@
 // The kernels of the lens: shapes, shares, marks, the radius from depth, and rounding. Knows nothing of plates.
+#![tactic(auto)]
+
 pub mod band;
 pub mod lens;
 pub mod mark;

@@ -1,7 +1,7 @@
 // A lens, and a radius from depth.
 
 // Opening, focal length and focus in 0.1 mm, pitch in 0.1 µm.
-#[derive(Drop)]
+#[derive(Clone, Copy)]
 pub struct Lens {
     pub opening: u32,
     pub focal: u32,
@@ -10,7 +10,7 @@ pub struct Lens {
 }
 
 // A radius, or why there is none.
-#[derive(Drop)]
+#[derive(Clone, Copy)]
 pub enum Radius {
     Pixels(u8),
     NoLens,

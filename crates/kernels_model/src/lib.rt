@@ -1,4 +1,6 @@
 // The kernels, as they are defined: their numbers and types, the definitions and the statements, and their proofs. No function.
+#![tactic(auto)]
+
 pub mod band;
 pub mod fixed;
 pub mod lens;

@@ -1,7 +1,7 @@
 // A kernel's marks as they are handed out: a grid of boxes, or two lines by the ends of their pieces.
 
 // Boxes convolved: count + 1 marks along each axis, a side apart, in one plane.
-#[derive(Drop)]
+#[derive(Clone, Copy)]
 pub struct Boxes {
     pub plane: usize,
     pub count: usize,
@@ -9,7 +9,7 @@ pub struct Boxes {
 }
 
 // The rows of a line: where its first piece starts, where it is level, and a step past its last column.
-#[derive(Drop)]
+#[derive(Clone, Copy)]
 pub struct Line {
     pub edge: usize,
     pub level: usize,
@@ -18,7 +18,7 @@ pub struct Line {
 
 // Two lines: the planes of their sloping pieces, whether a level piece lies between them, the columns where the pieces end,
 // and the rows of each line. The diamond's lines have no level piece, and go back where they turn.
-#[derive(Drop)]
+#[derive(Clone, Copy)]
 pub struct Outline {
     pub rising: usize,
     pub falling: usize,
@@ -31,7 +31,7 @@ pub struct Outline {
     pub bottom: Line,
 }
 
-#[derive(Drop)]
+#[derive(Clone, Copy)]
 pub enum Drawing {
     Grid(Boxes),
     Lines(Outline),

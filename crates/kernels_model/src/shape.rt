@@ -1,6 +1,6 @@
 // The six shapes of a lens opening.
 
-#[derive(Drop)]
+#[derive(Clone, Copy)]
 pub enum Shape {
     Box,
     Tent,
@@ -10,7 +10,7 @@ pub enum Shape {
     Octagon,
 }
 
-#[derive(Drop)]
+#[derive(Clone, Copy)]
 pub enum ShapeRead {
     Known(Shape),
     Unknown,

@@ -3,7 +3,7 @@ use crate::fixed::TABLE_NUMBERS;
 
 // What a pixel of opacity 1 adds for each tap, and what it adds at the centre besides: the part that is lost by rounding the
 // share down.
-#[derive(Drop)]
+#[derive(Clone, Copy)]
 pub struct Share {
     pub each: u32,
     pub rest: u32,

@@ -1,4 +1,6 @@
 // The C interface of the plate: the same calls in the same order, a slice as pointer then length. include/lens.h declares it.
+#![tactic(auto)]
+
 ghost use Rattle.std.specs.Prelude.{◌≡◌};
 ghost use Rattle.plate_model.specs.Layout.{size_from};
 ghost use Rattle.plate_model.specs.Lent.{ask, inputs, lent_at_entry, lent_at_exit, views_at_entry, views_at_exit, canvas_at_entry};

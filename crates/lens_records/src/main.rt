@@ -1,5 +1,7 @@
 // The record program: records from standard input, their text to standard output. A program has no exit status to fail with, so
 // that a read or a write has failed is said on standard error, and the text then has no last line.
+#![tactic(auto)]
+
 ghost use Rattle.std.specs.Prelude.{◌≤◌, length, ◌≡◌, true};
 ghost use Rattle.records_model.specs.Machine.{at_entry, at_exit, buffers, zeroed};
 ghost use Rattle.lens_records.specs.Feeding.{FedTo, FedFront};

@@ -1,4 +1,6 @@
 // The plate: a sharp layer's pixels as marks in planes. Knows nothing of records.
+#![tactic(auto)]
+
 mod change;
 mod check;
 mod clear;

@@ -3,7 +3,7 @@ use crate::state::Refusal;
 use crate::word::Pixel;
 
 // A place with its column and row, the pixel that stands there, and the one that is to come.
-#[derive(Drop)]
+#[derive(Clone, Copy)]
 pub struct Change {
     pub place: usize,
     pub x: usize,
@@ -13,7 +13,7 @@ pub struct Change {
 }
 
 // What a call is to change, or why it is refused.
-#[derive(Drop)]
+#[derive(Clone, Copy)]
 pub enum ChangeRead {
     ToChange(Change),
     NoChange(Refusal),

@@ -2,7 +2,7 @@
 use kernels_model::shape::ShapeRead;
 
 // What a put asks for: a place, and a pixel with its shape as it was read.
-#[derive(Drop)]
+#[derive(Clone, Copy)]
 pub struct Ask {
     pub x: usize,
     pub y: usize,
@@ -13,7 +13,7 @@ pub struct Ask {
 }
 
 // The lengths of planes, pixels and log.
-#[derive(Drop)]
+#[derive(Clone, Copy)]
 pub struct LentLengths {
     pub planes: usize,
     pub pixels: usize,

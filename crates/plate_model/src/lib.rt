@@ -1,4 +1,6 @@
 // The plate, as it is defined: its numbers and types, the definitions and the statements, and their proofs. No function.
+#![tactic(auto)]
+
 pub mod change;
 pub mod fixed;
 pub mod lent;

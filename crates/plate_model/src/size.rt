@@ -1,7 +1,7 @@
 // The sizes of a plate, and the frame of its planes that follows from them.
 
 // What an open is given.
-#[derive(Drop)]
+#[derive(Clone, Copy)]
 pub struct Size {
     pub width: usize,
     pub height: usize,

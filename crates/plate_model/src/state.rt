@@ -2,14 +2,14 @@
 use crate::size::Size;
 
 // The sizes of a plate and the number of log entries in use. It goes in by value and comes back in the answer.
-#[derive(Drop)]
+#[derive(Clone, Copy)]
 pub struct State {
     pub size: Size,
     pub count: usize,
 }
 
 // Why a call is refused: the paper's numbers 1 to 12, in order, and 17; 13 to 16 are the records'.
-#[derive(Drop)]
+#[derive(Clone, Copy)]
 pub enum Refusal {
     Sizes,
     Lengths,
@@ -26,14 +26,14 @@ pub enum Refusal {
     DepthInside,
 }
 
-#[derive(Drop)]
+#[derive(Clone, Copy)]
 pub enum Outcome {
     Accepted,
     Refused(Refusal),
 }
 
 // The marks are those that a put or an undo moved.
-#[derive(Drop)]
+#[derive(Clone, Copy)]
 pub struct Answer {
     pub outcome: Outcome,
     pub marks: u32,

@@ -2,7 +2,7 @@
 use crate::state::Answer;
 
 // What a plate holds in all; both sums are 0 where the call is refused.
-#[derive(Drop)]
+#[derive(Clone, Copy)]
 pub struct Totals {
     pub answer: Answer,
     pub matte: u64,

@@ -1,4 +1,6 @@
 // Each example of the paper's table of refusals that a plate's calls can give: the numbers 1 to 12 and 17, one on a line.
+#![tactic(auto)]
+
 use libc::STDOUT_FILENO;
 use plate::{Answer, Lens, Size, State};
 

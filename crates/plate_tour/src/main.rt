@@ -1,6 +1,8 @@
 // A plate of 3 × 1 pixels: opened, two pixels put, one taken back, then filled. Each show prints value and matte of each cell,
 // and after the two puts light and matte of the whole plate are printed. Last a pixel is put and taken back with the pictures
 // kept under the brush, and these are printed.
+#![tactic(auto)]
+
 use libc::STDOUT_FILENO;
 use plate::{Lens, State};
 

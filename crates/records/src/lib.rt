@@ -1,4 +1,6 @@
 // Records: raw bytes in, text out.
+#![tactic(auto)]
+
 pub mod advance;
 pub mod machine;
 mod perform;

@@ -1,6 +1,8 @@
 // Cases of the record program, read as text: a line that starts with # names a case, and two hexadecimal digits side by side
 // are a byte of its input; whatever else stands below the name is passed over. It prints each name, and then the text of the
 // case's run.
+#![tactic(auto)]
+
 ghost use Rattle.std.specs.Prelude.{◌≤◌, ◌<◌, length};
 
 use libc::{STDIN_FILENO, STDOUT_FILENO};

@@ -4,7 +4,7 @@ use plate_model::size::Size;
 use plate_model::state::State;
 
 // Where a run stands: no plate yet, a plate, or the end after a stop.
-#[derive(Drop)]
+#[derive(Clone, Copy)]
 pub enum Stage {
     Closed,
     Opened(State),
@@ -13,7 +13,7 @@ pub enum Stage {
 
 // What a record has to print: nothing, the line of a stop, the line of a refusal by its number, or the pictures of a plate of
 // these sizes.
-#[derive(Drop)]
+#[derive(Clone, Copy)]
 pub enum Reply {
     Nothing,
     StoppedBy(Stop),
@@ -21,7 +21,7 @@ pub enum Reply {
     Pictures(Size),
 }
 
-#[derive(Drop)]
+#[derive(Clone, Copy)]
 pub struct Effect {
     pub stage: Stage,
     pub reply: Reply,

@@ -1,4 +1,6 @@
 // Records, as they are defined: their numbers and types, the definitions and the statements, and their proofs. No function.
+#![tactic(auto)]
+
 pub mod advance;
 pub mod effect;
 pub mod fixed;

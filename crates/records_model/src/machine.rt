@@ -5,7 +5,7 @@ use crate::request::Task;
 
 // A run between two bytes: where it stands, the record that is being read (its kind, how many bytes of its body are held, and of
 // how many), and how many records have begun.
-#[derive(Drop)]
+#[derive(Clone, Copy)]
 pub struct Machine {
     pub stage: Stage,
     pub kind: u8,
@@ -16,7 +16,7 @@ pub struct Machine {
 }
 
 // A byte taken in, and what there is to do then.
-#[derive(Drop)]
+#[derive(Clone, Copy)]
 pub struct Taken {
     pub machine: Machine,
     pub task: Task,

@@ -3,7 +3,7 @@ use plate_model::size::Size;
 use plate_model::word::Pixel;
 
 // A put's place, and the pixel that it asks for.
-#[derive(Drop)]
+#[derive(Clone, Copy)]
 pub struct PlacedPixel {
     pub x: usize,
     pub y: usize,
@@ -11,7 +11,7 @@ pub struct PlacedPixel {
 }
 
 // A put whose shape byte names no shape: what is left to refuse it by.
-#[derive(Drop)]
+#[derive(Clone, Copy)]
 pub struct Shapeless {
     pub x: usize,
     pub y: usize,
@@ -19,7 +19,7 @@ pub struct Shapeless {
 }
 
 // One record with its whole body.
-#[derive(Drop)]
+#[derive(Clone, Copy)]
 pub enum Record {
     Open(Size),
     Put(PlacedPixel),
@@ -29,7 +29,7 @@ pub enum Record {
 }
 
 // Why a run stops: the paper's numbers 1 and 13 to 16.
-#[derive(Drop)]
+#[derive(Clone, Copy)]
 pub enum Stop {
     Sizes,
     Kind,
@@ -39,7 +39,7 @@ pub enum Stop {
 }
 
 // The bytes of a kind's body, or that there is no such kind.
-#[derive(Drop)]
+#[derive(Clone, Copy)]
 pub enum BodyLength {
     Bytes(usize),
     NoKind,

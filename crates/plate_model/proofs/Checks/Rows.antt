@@ -1,5 +1,5 @@
 -- Answers by rows of the table of refusals, and checks that keep to a row.
-use mathlib.Core.Path.{◌≡◌, refl, ap, sym, ◌∙◌}
+use mathlib.Core.Path.{◌≡◌, refl, ap, sym, subst, ◌∙◌}
 use mathlib.Core.Logic.{◌⊎◌, inl, inr, ⊎_elim}
 use mathlib.Core.List.{List, [], ◌∷◌, ◌++◌}
 use Prim.Native.Nat.{ℕ, ◌≤◌}
@@ -184,7 +184,8 @@ module _ {f : Refusal} {G C : Type 0} {check : Outcome → Outcome} where
       → OutcomeBy (row f G ∷ rows) (check next)
   unfolding FirstOf
   first_check k rows next rest =
-      by_check k (λ g r. inl (g, r next)) (λ c r. inr ((λ g. k.apart g c), rw (r next) (rest c)))
+      by_check k (λ g r. inl (g, r next))
+      (λ c r. inr ((λ g. k.apart g c), subst (λ (o : Outcome). OutcomeBy rows o) (sym (r next)) (rest c)))
 
 -- two checks for one row
 pub checks_both : {f : Refusal} {G C H D : Type 0} {check other : Outcome → Outcome}

@@ -1,6 +1,6 @@
 -- DEMAND 1: every call answers the first refusal of its rows whose condition holds, is accepted where none does, and leaves
 -- everything as it was where it is refused.
-use mathlib.Core.Path.{◌≡◌, refl, ap, sym, ◌∙◌}
+use mathlib.Core.Path.{◌≡◌, refl, ap, sym, subst, ◌∙◌}
 use mathlib.Core.Logic.{◌⊎◌, inl, inr, ⊎_elim}
 use mathlib.Core.List.{List, [], ◌∷◌}
 use Prim.Native.Nat.{ℕ, ◌-◌}
@@ -244,7 +244,8 @@ also_checked : {C D : Type 0} {check : Outcome → Outcome} (z : Size) → Check
 unfolding FirstOf
 also_checked {C} {D} {check} z k L rows next first =
     first_check (sizes_checks z) (row Lengths (L ⊎ C) ∷ rows) (check next)
-    (λ lawful. by_check k wrong (λ right r. rw (r next) (past lawful right first)))
+    (λ lawful. by_check k wrong
+    (λ right r. subst (λ (o : Outcome). OutcomeBy (row Lengths (L ⊎ C) ∷ rows) o) (sym (r next)) (past lawful right first)))
   where
     wrong : C → ((o : Outcome) → check o ≡ Refused Lengths) → OutcomeBy (row Lengths (L ⊎ C) ∷ rows) (check next)
     wrong c r = inl (inr c, r next)

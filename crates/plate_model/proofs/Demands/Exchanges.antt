@@ -196,8 +196,8 @@ module _ (z : Size) (c : Change) (planes : List ℕ) (ok : Changeable z c (lengt
       → ((i : ℕ) → i < places z → in_reach z c i ≡ false → kept i ≡ then i)
       → list_to (in_reach_or z c new kept) (places z) ≡ list_to then (places z)
   unfolding in_reach_or
-  cells_mended new kept then in_reach out =
-      list_to_ext _ _ (places z) (λ i h. pick_if (in_reach z c i) (new i) (kept i) (then i) (λ _. in_reach i h) (out i h))
+  cells_mended new kept then within_it out =
+      list_to_ext _ _ (places z) (λ i h. pick_if (in_reach z c i) (new i) (kept i) (then i) (λ _. within_it i h) (out i h))
 
   -- and for the value that is rounded from both
   shown-mended : (i : ℕ) → i < places z

@@ -13,74 +13,74 @@ use Rattle.kernels.proofs.band.band_of.Statement.{statement}
 use Rattle.kernels.proofs.band.band_of.Tie as tie
 
 -- the radius is at most the shape's top
-low : (c : tie.Else1) → let a = c.before.before.args in a.radius ≤ top_of a.s
-low c = omega (arith, c.if1.false, c.before.top.ensures)
+low : (c : tie.Else-top-radius) → let a = c.before.before.args in a.radius ≤ top_of a.s
+low c = omega (arith, c.if-top-radius.false, c.before.top.ensures)
 
 -- the boxes' tap in the row's place is the row's own
-own-known : (c : tie.After-box-tap)
+own-known : (c : tie.After-box_tap-own)
     → let a = c.before.before.before.before.before.before.args in
-    c.box-tap.result ≡ own_tap a.s a.radius a.dy
-own-known c = c.box-tap.ensures ∙ rw (c.before.before.before.boxes.ensures, c.before.height.ensures)
+    c.box_tap-own.result ≡ own_tap a.s a.radius a.dy
+own-known c = c.box_tap-own.ensures ∙ rw (c.before.before.before.boxes-n.ensures, c.before.height-tall.ensures)
 
-returns : tie.Need-returns
-returns c = sym (band_above _ _ _ _ (omega (arith, c.if1.true, c.before.top.ensures)))
+returns : tie.Need-returns-then-top-radius
+returns c = sym (band_above _ _ _ _ (omega (arith, c.if-top-radius.true, c.before.top.ensures)))
 
-box-tap-requires : tie.Need-box-tap-requires
+box-tap-requires : tie.Need-box_tap-own-requires
 box-tap-requires c κs =
     let else = c.before.before.before in
     let a = else.before.before.args in
     omega (
       arith,
-      c.before.before.boxes.ensures,
+      c.before.before.boxes-n.ensures,
       boxes_some a.s,
       boxes_few a.s,
-      c.height.ensures,
+      c.height-tall.ensures,
       height_low a.s a.radius,
       low else,
       top_small a.s,
     )
 
-span-of-requires : tie.Need-span-of-requires
+span-of-requires : tie.Need-span_of-span-requires
 span-of-requires c κs =
     let else = c.before.before.before.before in
     let a = else.before.before.args in
     omega (
       arith,
-      c.before.before.before.boxes.ensures,
+      c.before.before.before.boxes-n.ensures,
       boxes_few a.s,
-      c.before.before.row-radius.ensures,
+      c.before.before.row_radius-wide.ensures,
       row_narrow a.s a.radius a.dy,
       low else,
       top_small a.s,
     )
 
-cast-t14 : tie.Need-overflow-cast-t14
+cast-t14 : tie.Need-overflow_cast-result
 cast-t14 c =
     let else = c.before.before.before.before.before.before in
     let a = else.before.before.args in
     omega (
       arith,
-      c.before.before.before.before.row-radius.ensures,
+      c.before.before.before.before.row_radius-wide.ensures,
       row_narrow a.s a.radius a.dy,
       low else,
       top_small a.s,
     )
 
-cast-t15 : tie.Need-overflow-cast-t15
+cast-t15 : tie.Need-overflow_cast-result-2
 cast-t15 c =
     let else = c.before.before.before.before.before.before in
     let a = else.before.before.args in
     omega (arith, own-known c.before.before, own_small a.s a.radius a.dy (low else))
 
-returns-2 : tie.Need-returns-2
+returns-2 : tie.Need-returns
 returns-2 c =
     let else = c.before.before.before.before.before.before in
     let a = else.before.before.args in
-    let boxes = c.before.before.before.before.before.boxes.ensures in
-    let wide = c.before.before.before.before.row-radius.ensures in
+    let boxes = c.before.before.before.before.before.boxes-n.ensures in
+    let wide = c.before.before.before.before.row_radius-wide.ensures in
     let own = own-known c.before.before in
-    let span = c.before.Span-of.ensures ∙ (λ i. within 1 (own i) (boxes i * wide i + 1)) in
-    let rest = c.in-middle.ensures in
+    let span = c.before.span_of-span.ensures ∙ (λ i. within 1 (own i) (boxes i * wide i + 1)) in
+    let rest = c.in_middle-rest.ensures in
     (λ i. record { shape = a.s; radius = wide i; span = span i; own = own i; each = a.share.each; rest = rest i })
     ∙ sym (band_under _ _ _ _ (low else))
 

@@ -19,62 +19,62 @@ thrice_fits : (a b : ℕ) → a < 1000 → b < 1000 → Fits w64 (3 * (a * b))
 thrice_fits a b p q = omega (arith, product_le a b 1000 1000 (omega arith) (omega arith))
 
 -- the cell lies in the reach of two boxes, and of three
-in_two : (c : tie.Then3) → c.before.before.before.args.d ≤ 2 * c.before.before.before.args.radius
-in_two c = rw c.if3.true at c.before.before.if1.false
+in_two : (c : tie.Then-boxes-eq2) → c.before.before.before.args.d ≤ 2 * c.before.before.before.args.radius
+in_two c = rw c.if-boxes-eq2.true at c.before.before.if-boxes-radius.false
 
-in_three : (c : tie.Else3) → c.before.before.before.args.d ≤ 3 * c.before.before.before.args.radius
-in_three c = let e : c.before.before.before.args.boxes ≡ 3 = omega arith in rw e at c.before.before.if1.false
+in_three : (c : tie.Else-boxes-eq2) → c.before.before.before.args.d ≤ 3 * c.before.before.before.args.radius
+in_three c = let e : c.before.before.before.args.boxes ≡ 3 = omega arith in rw e at c.before.before.if-boxes-radius.false
 
 -- the cells to the end of three boxes
-abbrev cells : tie.After-less → ℕ
+abbrev cells : tie.After-less-m → ℕ
 cells c = 3 * c.before.before.before.before.args.radius + 1 - c.before.before.before.before.args.d
 
 -- the closed form of three boxes, with the difference that `less` gave
-closed : (c : tie.After-less)
+closed : (c : tie.After-less-m)
     → 2 * box_tap 3 c.before.before.before.before.args.radius c.before.before.before.before.args.d
-    + 3 * (c.less.result * (c.less.result + 1))
+    + 3 * (c.less-m.result * (c.less-m.result + 1))
     ≡ cells c * (cells c + 1)
-closed c = rw c.less.ensures (three_boxes _ _ (in_three c.before))
+closed c = rw c.less-m.ensures (three_boxes _ _ (in_three c.before))
 
-mul-if1 : tie.Need-overflow-mul-if1
+mul-if1 : tie.Need-overflow_mul-boxes
 mul-if1 c = omega (arith, thrice_fits c.args.boxes c.args.radius (omega arith) (omega arith))
 
-returns : tie.Need-returns
-returns c = sym (box_far _ _ _ c.if1.true)
+returns : tie.Need-returns-then-boxes-radius
+returns c = sym (box_far _ _ _ c.if-boxes-radius.true)
 
-returns-2 : tie.Need-returns-2
+returns-2 : tie.Need-returns-then-boxes-eq1
 returns-2 c =
-    let near = rw c.if2.true at c.before.if1.false in
-    rw c.if2.true (sym (one-box _ _ ∙ within_yes _ _ 1 (omega arith)))
+    let near = rw c.if-boxes-eq1.true at c.before.if-boxes-radius.false in
+    rw c.if-boxes-eq1.true (sym (one-box _ _ ∙ within_yes _ _ 1 (omega arith)))
 
-sub-result : tie.Need-overflow-sub-result
+sub-result : tie.Need-overflow_sub-result
 sub-result c = omega (arith, in_two c)
 
-returns-3 : tie.Need-returns-3
-returns-3 c = rw c.if3.true (sym (two_boxes _ _))
+returns-3 : tie.Need-returns-then-boxes-eq2
+returns-3 c = rw c.if-boxes-eq2.true (sym (two_boxes _ _))
 
-sub-e : tie.Need-overflow-sub-e
+sub-e : tie.Need-overflow_sub-e
 sub-e c = omega (arith, in_three c)
 
-mul-result-2 : tie.Need-overflow-mul-result-2
+mul-result-2 : tie.Need-overflow_mul-result-2
 mul-result-2 c = omega (arith, thrice_fits (cells c) (cells c + 1) (omega arith) (omega arith))
 
-mul-result-3 : tie.Need-overflow-mul-result-3
-mul-result-3 c = omega (arith, thrice_fits c.less.result (c.less.result + 1) (omega arith) (omega arith))
+mul-result-3 : tie.Need-overflow_mul-result-3
+mul-result-3 c = omega (arith, thrice_fits c.less-m.result (c.less-m.result + 1) (omega arith) (omega arith))
 
-mul-result-4 : tie.Need-overflow-mul-result-4
-mul-result-4 c = thrice_fits c.less.result (c.less.result + 1) (omega arith) (omega arith)
+mul-result-4 : tie.Need-overflow_mul-result-4
+mul-result-4 c = thrice_fits c.less-m.result (c.less-m.result + 1) (omega arith) (omega arith)
 
-sub-result-2 : tie.Need-overflow-sub-result-2
+sub-result-2 : tie.Need-overflow_sub-result-2
 sub-result-2 c = omega (arith, closed c)
 
-returns-4 : tie.Need-returns-4
+returns-4 : tie.Need-returns
 returns-4 c =
     let e : c.before.before.before.before.args.boxes ≡ 3 = omega arith in
     rw e (omega (arith, closed c))
 
-pub box-tap_spec : {M : Type 1} → statement M
-box-tap_spec =
+pub box_tap_spec : {M : Type 1} → statement M
+box_tap_spec =
     tie.close
     (tie.spec
     mul-if1

@@ -3,8 +3,8 @@ use borrow.Author.Rules.{rules}
 use Rattle.kernels.proofs.band.height.Statement.{statement}
 use Rattle.kernels.proofs.band.height.Tie as tie
 
-returns-5 : tie.Need-returns-5
-returns-5 c = rw c.enum-told5.given.1
+returns-5 : tie.Need-returns-in-Hexagon
+returns-5 c = rw c.in-Hexagon.is
 
 pub height_spec : {M : Type 1} → statement M
 height_spec =

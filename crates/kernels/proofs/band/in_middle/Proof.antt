@@ -4,11 +4,11 @@ use Rattle.kernels_model.proofs.Numbers.Choices.{same_yes, same_no}
 use Rattle.kernels.proofs.band.in_middle.Statement.{statement}
 use Rattle.kernels.proofs.band.in_middle.Tie as tie
 
-returns : tie.Need-returns
-returns c = sym (same_yes _ 0 _ c.if1.true)
+returns : tie.Need-returns-then-d-eq0
+returns c = sym (same_yes _ 0 _ c.if-d-eq0.true)
 
-returns-2 : tie.Need-returns-2
-returns-2 c = sym (same_no _ 0 _ c.if1.false)
+returns-2 : tie.Need-returns
+returns-2 c = sym (same_no _ 0 _ c.if-d-eq0.false)
 
 pub in_middle_spec : {M : Type 1} → statement M
 in_middle_spec = tie.close (tie.spec returns returns-2)

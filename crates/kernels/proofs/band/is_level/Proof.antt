@@ -6,13 +6,13 @@ use Rattle.kernels_model.specs.Band.{is_level}
 use Rattle.kernels.proofs.band.is_level.Statement.{statement}
 use Rattle.kernels.proofs.band.is_level.Tie as tie
 
-returns : tie.Need-returns
+returns : tie.Need-returns-then-boxes-ne1
 unfolding is_level
-returns c = rw (ne_eqb _ 1 (rw c.before.boxes.ensures at c.if1.true))
+returns c = rw (ne_eqb _ 1 (rw c.before.boxes.ensures at c.if-boxes-ne1.true))
 
-returns-2 : tie.Need-returns-2
+returns-2 : tie.Need-returns
 unfolding is_level
-returns-2 c = rw (eq-eqb _ 1 (sym c.before.before.boxes.ensures ∙ c.before.if1.false))
+returns-2 c = rw (eq-eqb _ 1 (sym c.before.before.boxes.ensures ∙ c.before.if-boxes-ne1.false))
 
-pub is-level_spec : {M : Type 1} → statement M
-is-level_spec = tie.close (tie.spec (λ c κs. search rules) returns returns-2)
+pub is_level_spec : {M : Type 1} → statement M
+is_level_spec = tie.close (tie.spec (λ c κs. search rules) returns returns-2)

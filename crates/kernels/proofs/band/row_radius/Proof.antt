@@ -3,14 +3,14 @@ use borrow.Author.Rules.{rules}
 use Rattle.kernels.proofs.band.row_radius.Statement.{statement}
 use Rattle.kernels.proofs.band.row_radius.Tie as tie
 
-returns-4 : tie.Need-returns-4
-returns-4 c = rw c.before.enum-told4.given.1 c.less.ensures
+returns-4 : tie.Need-returns-in-Diamond
+returns-4 c = rw c.before.in-Diamond.is c.less.ensures
 
-returns-5 : tie.Need-returns-5
-returns-5 c = rw c.before.enum-told5.given.1 c.less2.ensures
+returns-5 : tie.Need-returns-in-Hexagon
+returns-5 c = rw c.before.in-Hexagon.is c.less-in-Hexagon.ensures
 
-returns-6 : tie.Need-returns-6
-returns-6 c = rw (c.before.before.enum-told6.given.1, ← c.before.less3.ensures) c.less4.ensures
+returns-6 : tie.Need-returns-in-Octagon
+returns-6 c = rw (c.before.before.in-Octagon.is, ← c.before.less-in-Octagon.ensures) c.less-in-Octagon-2.ensures
 
 pub row_radius_spec : {M : Type 1} → statement M
 row_radius_spec =

@@ -8,19 +8,19 @@ use Rattle.kernels.proofs.band.span_of.Statement.{statement}
 use Rattle.kernels.proofs.band.span_of.Tie as tie
 
 -- the cells of the boxes on one side
-few_cells : (c : tie.Else1) → c.before.args.boxes * c.before.args.radius ≤ 3 * 255
+few_cells : (c : tie.Else-own-eq0) → c.before.args.boxes * c.before.args.radius ≤ 3 * 255
 few_cells c = product_le _ _ 3 255 (omega arith) (omega arith)
 
-returns : tie.Need-returns
+returns : tie.Need-returns-then-own-eq0
 returns c = sym (within_no 1 _ _ (omega arith))
 
-mul-result : tie.Need-overflow-mul-result
+mul-result : tie.Need-overflow_mul-result
 mul-result c = omega (arith, few_cells c)
 
-add-result : tie.Need-overflow-add-result
+add-result : tie.Need-overflow_add-result
 add-result c = omega (arith, few_cells c)
 
-returns-2 : tie.Need-returns-2
+returns-2 : tie.Need-returns
 returns-2 c = sym (within_yes 1 _ _ (omega arith))
 
 pub span_of_spec : {M : Type 1} → statement M

@@ -17,80 +17,80 @@ use Rattle.kernels.proofs.band.weight_at.Statement.{statement}
 use Rattle.kernels.proofs.band.weight_at.Tie as tie
 
 -- where the call starts
-abbrev start : tie.After-in-middle → tie.Start
+abbrev start : tie.After-in_middle-middle → tie.Start
 start c = c.before.before.before.before.before.before
 
 -- what a tap is worth, times the row's own tap
 worth-low : (s : tie.Start) → s.args.band.each * s.args.band.own ≤ 2 ^ 32 * 2 ^ 8
-worth-low s = product_le _ _ (2 ^ 32) (2 ^ 8) (omega (arith, s.well-formed)) (omega (arith, s.well-formed))
+worth-low s = product_le _ _ (2 ^ 32) (2 ^ 8) (omega (arith, s.well_formed)) (omega (arith, s.well_formed))
 
 -- a number in the middle alone is no larger
 same_le : (d n : ℕ) → same d 0 n ≤ n
 same_le d n = by_eq d 0 (λ e. omega (arith, same_yes d 0 n e)) (λ k. omega (arith, same_no d 0 n k))
 
-middle-low : (c : tie.After-in-middle) → c.in-middle.result ≤ 2 ^ 32
+middle-low : (c : tie.After-in_middle-middle) → c.in_middle-middle.result ≤ 2 ^ 32
 middle-low c =
-    let s = start c in omega (arith, c.in-middle.ensures, same_le s.args.dx s.args.band.rest, s.good)
+    let s = start c in omega (arith, c.in_middle-middle.ensures, same_le s.args.dx s.args.band.rest, s.good)
 
 -- the tap is the boxes', and below 2 ^ 20
-tap-known : (c : tie.After-box-tap) → let a = (start c.before.before.before).args in
-    c.box-tap.result ≡ box_tap (boxes_of a.band.shape) a.band.radius a.dx
+tap-known : (c : tie.After-box_tap) → let a = (start c.before.before.before).args in
+    c.box_tap.result ≡ box_tap (boxes_of a.band.shape) a.band.radius a.dx
 tap-known c =
     let a = (start c.before.before.before).args in
-    c.box-tap.ensures
-    ∙ ap (λ (n : ℕ). box_tap n a.band.radius a.dx) c.before.before.before.before.before.before.boxes.ensures
+    c.box_tap.ensures
+    ∙ ap (λ (n : ℕ). box_tap n a.band.radius a.dx) c.before.before.before.before.before.before.boxes-n.ensures
 
-taps-low : (c : tie.After-box-tap) → let b = (start c.before.before.before).args.band in
-    b.each * b.own * c.box-tap.result ≤ 2 ^ 32 * 2 ^ 8 * 2 ^ 20
+taps-low : (c : tie.After-box_tap) → let b = (start c.before.before.before).args.band in
+    b.each * b.own * c.box_tap.result ≤ 2 ^ 32 * 2 ^ 8 * 2 ^ 20
 taps-low c =
     let s = start c.before.before.before in
     let small = tap_small s.args.band.shape s.args.band.radius s.args.dx (omega (arith, s.good)) in
     product_le _ _ (2 ^ 32 * 2 ^ 8) (2 ^ 20) (worth-low s) (omega (arith, tap-known c, small))
 
-returns : tie.Need-returns
-returns c = sym (band_out _ _ c.if1.true)
+returns : tie.Need-returns-then-band-dx
+returns c = sym (band_out _ _ c.if-band-dx.true)
 
-mul-worth : tie.Need-overflow-mul-worth
+mul-worth : tie.Need-overflow_mul-worth
 mul-worth c = omega (arith, worth-low c.before.before.before.before.before)
 
-add-result : tie.Need-overflow-add-result
+add-result : tie.Need-overflow_add-result
 add-result c = omega (arith, worth-low (start c.before), middle-low c.before)
 
-returns-2 : tie.Need-returns-2
+returns-2 : tie.Need-returns-then-n-eq1
 unfolding band_weight
 returns-2 c =
     let made = c.before in
     let b = (start made).args.band in
     let else = made.before.before.before.before in
     let one : band_tap b (start made).args.dx ≡ 1 =
-    rw (eq-eqb (boxes_of b.shape) 1 (sym made.before.before.before.boxes.ensures ∙ c.if2.true)) in
-    (λ i. b.each * b.own + made.in-middle.ensures i)
+    rw (eq-eqb (boxes_of b.shape) 1 (sym made.before.before.before.boxes-n.ensures ∙ c.if-n-eq1.true)) in
+    (λ i. b.each * b.own + made.in_middle-middle.ensures i)
     ∙ omega (arith, ap (λ (n : ℕ). b.each * b.own * n) one)
-    ∙ sym (within_yes (suc _) _ _ else.if1.false)
+    ∙ sym (within_yes (suc _) _ _ else.if-band-dx.false)
 
-box-tap-requires : tie.Need-box-tap-requires
+box-tap-requires : tie.Need-box_tap-requires
 box-tap-requires c κs =
     let s = start c.before.before in
     let b = s.args.band in
-    omega (arith, c.before.before.before.before.before.boxes.ensures, boxes_some b.shape, boxes_few b.shape, s.good)
+    omega (arith, c.before.before.before.before.before.boxes-n.ensures, boxes_some b.shape, boxes_few b.shape, s.good)
 
-mul-result : tie.Need-overflow-mul-result
+mul-result : tie.Need-overflow_mul-result
 mul-result c = omega (arith, taps-low c)
 
-add-result-2 : tie.Need-overflow-add-result-2
+add-result-2 : tie.Need-overflow_add-result-2
 add-result-2 c = omega (arith, taps-low c, middle-low c.before.before.before)
 
-returns-3 : tie.Need-returns-3
+returns-3 : tie.Need-returns
 unfolding band_weight
 returns-3 c =
     let made = c.before.before.before in
     let b = (start made).args.band in
     let else = made.before.before.before.before in
-    let more = rw made.before.before.before.boxes.ensures at c.before.before.if2.false in
+    let more = rw made.before.before.before.boxes-n.ensures at c.before.before.if-n-eq1.false in
     let tap : box_tap (boxes_of b.shape) b.radius (start made).args.dx ≡ band_tap b (start made).args.dx =
     rw (ne_eqb (boxes_of b.shape) 1 more) in
-    (λ i. b.each * b.own * (tap-known c ∙ tap) i + made.in-middle.ensures i)
-    ∙ sym (within_yes (suc _) _ _ else.if1.false)
+    (λ i. b.each * b.own * (tap-known c ∙ tap) i + made.in_middle-middle.ensures i)
+    ∙ sym (within_yes (suc _) _ _ else.if-band-dx.false)
 
 pub weight_at_spec : {M : Type 1} → statement M
 weight_at_spec =

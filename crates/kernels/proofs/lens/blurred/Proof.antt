@@ -26,37 +26,37 @@ near c =
     (omega arith)
     (omega (arith, keeps (start c), c.apart.ensures))
 
-mul-scale-2 : tie.Need-overflow-mul-scale-2
+mul-scale-2 : tie.Need-overflow_mul-scale-2
 mul-scale-2 c = omega (arith, far c.before.before)
 
-sub-past : tie.Need-overflow-sub-past
+sub-past : tie.Need-overflow_sub-past
 sub-past c = omega (arith, keeps c.before.before.before.before)
 
-mul-rounded : tie.Need-overflow-mul-rounded
+mul-rounded : tie.Need-overflow_mul-pitch
 mul-rounded c = omega (arith, far c.before.before.before.before.before)
 
 rounded-requires : tie.Need-rounded-requires
 rounded-requires c κs = omega (arith, far c.before.before.before.before.before)
 
-returns : tie.Need-returns
-returns c = c.rounded.ensures ∙ sym (blur_far _ _ c.before.if1.true)
+returns : tie.Need-returns-then-depth-eq0
+returns c = c.rounded.ensures ∙ sym (blur_far _ _ c.before.if-depth-eq0.true)
 
-mul-rounded-2 : tie.Need-overflow-mul-rounded-2
+mul-rounded-2 : tie.Need-overflow_mul-scale-3
 mul-rounded-2 c = omega (arith, near c)
 
-mul-rounded-3 : tie.Need-overflow-mul-rounded-3
+mul-rounded-3 : tie.Need-overflow_mul-pitch-2
 mul-rounded-3 c = omega (arith, near c)
 
-mul-rounded-4 : tie.Need-overflow-mul-rounded-4
+mul-rounded-4 : tie.Need-overflow_mul-pitch-3
 mul-rounded-4 c = omega (arith, near c)
 
 rounded-requires-2 : tie.Need-rounded-requires-2
 rounded-requires-2 c κs = omega (arith, near c)
 
-returns-2 : tie.Need-returns-2
+returns-2 : tie.Need-returns
 returns-2 c =
-    rw (blur_near _ _ c.before.before.before.if1.false, ← c.before.apart.ensures)
-    c.rounded2.ensures
+    rw (blur_near _ _ c.before.before.before.if-depth-eq0.false, ← c.before.apart.ensures)
+    c.rounded-2.ensures
 
 pub blurred_spec : {M : Type 1} → statement M
 blurred_spec =

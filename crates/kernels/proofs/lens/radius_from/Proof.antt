@@ -11,31 +11,31 @@ use Rattle.kernels_model.proofs.Lenses.ThinLens.{no_lens, no_depth, in_pixels}
 use Rattle.kernels.proofs.lens.radius_from.Statement.{statement}
 use Rattle.kernels.proofs.lens.radius_from.Tie as tie
 
-lawful : (c : tie.Else1) → lawful_lens c.before.before.args.l ≡ true
-lawful c = sym c.before.lawful-lens.ensures ∙ not-false _ c.if1.false
+lawful : (c : tie.Else-not-lawful_lens) → lawful_lens c.before.before.args.l ≡ true
+lawful c = sym c.before.lawful_lens.ensures ∙ not-false _ c.if-not-lawful_lens.false
 
-returns : tie.Need-returns
+returns : tie.Need-returns-then-not-lawful_lens
 unfolding radius_answer
-returns c = sym (no_lens _ _ _ (sym c.before.lawful-lens.ensures ∙ not-true _ c.if1.true))
+returns c = sym (no_lens _ _ _ (sym c.before.lawful_lens.ensures ∙ not-true _ c.if-not-lawful_lens.true))
 
-returns-2 : tie.Need-returns-2
+returns-2 : tie.Need-returns-then-depth-gt-DEPTH_TOP
 unfolding radius_answer
 returns-2 c = sym (no_depth _ _ _ (lawful c.before) (omega arith))
 
-blurred-requires : tie.Need-blurred-requires
+blurred-requires : tie.Need-blurred-r-requires
 blurred-requires c κs = (lawful c.before, omega arith)
 
-returns-3 : tie.Need-returns-3
+returns-3 : tie.Need-returns-then-r-top
 unfolding radius_answer
 returns-3 c =
-    rw (in_pixels _ _ _ (lawful c.before.before.before) c.before.before.if2.false)
-    (ap (number_and_value accepted) (omega (arith, c.before.blurred.ensures)))
+    rw (in_pixels _ _ _ (lawful c.before.before.before) c.before.before.if-depth-gt-DEPTH_TOP.false)
+    (ap (number_and_value accepted) (omega (arith, c.before.blurred-r.ensures)))
 
-returns-4 : tie.Need-returns-4
+returns-4 : tie.Need-returns
 unfolding radius_answer
 returns-4 c =
-    rw (in_pixels _ _ _ (lawful c.before.before.before) c.before.before.if2.false)
-    (ap (number_and_value accepted) (omega (arith, c.before.blurred.ensures)))
+    rw (in_pixels _ _ _ (lawful c.before.before.before) c.before.before.if-depth-gt-DEPTH_TOP.false)
+    (ap (number_and_value accepted) (omega (arith, c.before.blurred-r.ensures)))
 
 pub radius_from_spec : {M : Type 1} → statement M
 radius_from_spec =

@@ -5,29 +5,29 @@ use Rattle.kernels_model.specs.Drawing.{drawing_of}
 use Rattle.kernels.proofs.mark.draw.Statement.{statement}
 use Rattle.kernels.proofs.mark.draw.Tie as tie
 
-returns : tie.Need-returns
+returns : tie.Need-returns-in-Box
 unfolding drawing_of
-returns c = rw c.enum_told.given.1 refl
+returns c = rw c.in-Box.is refl
 
-returns-2 : tie.Need-returns-2
+returns-2 : tie.Need-returns-in-Tent
 unfolding drawing_of
-returns-2 c = rw c.enum-told2.given.1 refl
+returns-2 c = rw c.in-Tent.is refl
 
-returns-3 : tie.Need-returns-3
+returns-3 : tie.Need-returns-in-Triple
 unfolding drawing_of
-returns-3 c = rw c.enum-told3.given.1 refl
+returns-3 c = rw c.in-Triple.is refl
 
-returns-4 : tie.Need-returns-4
+returns-4 : tie.Need-returns-in-Diamond
 unfolding drawing_of
-returns-4 c = rw (c.before.enum-told4.given.1, c.piece-ends.ensures) refl
+returns-4 c = rw (c.before.in-Diamond.is, c.piece_ends.ensures) refl
 
-returns-5 : tie.Need-returns-5
+returns-5 : tie.Need-returns-in-Hexagon
 unfolding drawing_of
-returns-5 c = rw (c.before.enum-told5.given.1, c.piece-ends2.ensures) refl
+returns-5 c = rw (c.before.in-Hexagon.is, c.piece_ends-in-Hexagon.ensures) refl
 
-returns-6 : tie.Need-returns-6
+returns-6 : tie.Need-returns-in-Octagon
 unfolding drawing_of
-returns-6 c = rw (c.before.enum-told6.given.1, c.piece-ends3.ensures) refl
+returns-6 c = rw (c.before.in-Octagon.is, c.piece_ends-in-Octagon.ensures) refl
 
 pub draw_spec : {M : Type 1} → statement M
 draw_spec =

@@ -9,23 +9,23 @@ use borrow.Author.Rules.{rules}
 use Rattle.kernels.proofs.rounding.rounded_even.Statement.{statement}
 use Rattle.kernels.proofs.rounding.rounded_even.Tie as tie
 
-sub-if1 : tie.Need-overflow-sub-if1
+sub-if1 : tie.Need-overflow_sub-matte
 sub-if1 c = omega (arith, mod-lt c.args.light c.requires)
 
-add-if1 : tie.Need-overflow-add-if1
+add-if1 : tie.Need-overflow_add-rest
 add-if1 c = omega (arith, mod-lt c.args.light c.requires)
 
-add-result : tie.Need-overflow-add-result
+add-result : tie.Need-overflow_add-result
 add-result c =
     let light = c.before.args.light in
     let matte = c.before.args.matte in
     let two : 2 ≤ matte = omega (arith, mod-lt light c.before.requires) in
     omega (arith, quotient_half light matte two)
 
-returns : tie.Need-returns
+returns : tie.Need-returns-then-matte-rest
 returns c = sym (even_up c.before.args.light c.before.args.matte c.before.requires (omega arith))
 
-returns-2 : tie.Need-returns-2
+returns-2 : tie.Need-returns
 returns-2 c = sym (even_down c.before.args.light c.before.args.matte (omega arith))
 
 pub rounded_even_spec : {M : Type 1} → statement M

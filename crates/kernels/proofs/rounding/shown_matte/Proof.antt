@@ -5,11 +5,11 @@ use borrow.Author.Rules.{rules}
 use Rattle.kernels.proofs.rounding.shown_matte.Statement.{statement}
 use Rattle.kernels.proofs.rounding.shown_matte.Tie as tie
 
-returns : tie.Need-returns
+returns : tie.Need-returns-then-matte-lt-WHOLE
 unfolding shown_matte nearest
 returns c = omega arith
 
-returns-2 : tie.Need-returns-2
+returns-2 : tie.Need-returns
 unfolding shown_matte nearest
 returns-2 c = omega arith
 

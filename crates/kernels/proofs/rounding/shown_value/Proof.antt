@@ -6,14 +6,14 @@ use borrow.Author.Rules.{rules}
 use Rattle.kernels.proofs.rounding.shown_value.Statement.{statement}
 use Rattle.kernels.proofs.rounding.shown_value.Tie as tie
 
-returns : tie.Need-returns
-returns c = sym (value_none _ _ c.if1.true)
+returns : tie.Need-returns-then-matte-eq0
+returns c = sym (value_none _ _ c.if-matte-eq0.true)
 
-returns-2 : tie.Need-returns-2
-returns-2 c = rw (value_some _ _ c.before.before.if1.false) (omega (arith, c.before.rounded-even.ensures))
+returns-2 : tie.Need-returns-then-q
+returns-2 c = rw (value_some _ _ c.before.before.if-matte-eq0.false) (omega (arith, c.before.rounded_even-q.ensures))
 
-returns-3 : tie.Need-returns-3
-returns-3 c = rw (value_some _ _ c.before.before.if1.false) (omega (arith, c.before.rounded-even.ensures))
+returns-3 : tie.Need-returns
+returns-3 c = rw (value_some _ _ c.before.before.if-matte-eq0.false) (omega (arith, c.before.rounded_even-q.ensures))
 
 pub shown_value_spec : {M : Type 1} → statement M
 shown_value_spec = tie.close (tie.spec returns (λ c κs. search rules) (λ c. search rules) (λ c. search rules) returns-2 returns-3)

@@ -6,7 +6,7 @@ use borrow.Author.Rules.{rules}
 use Rattle.kernels.proofs.shape.reach.Statement.{statement}
 use Rattle.kernels.proofs.shape.reach.Tie as tie
 
-mul-result : tie.Need-overflow-mul-result
+mul-result : tie.Need-overflow_mul-result
 mul-result c =
     omega (
       arith,

@@ -6,31 +6,31 @@ use Rattle.kernels_model.proofs.Taps.ShapeNumbers.{shape_above}
 use Rattle.kernels.proofs.shape.shape_of.Statement.{statement}
 use Rattle.kernels.proofs.shape.shape_of.Tie as tie
 
-returns : tie.Need-returns
+returns : tie.Need-returns-in-0
 unfolding shape_answer shape_answer_for
-returns c = ap shape_answer_for (sym c.match.keys1)
+returns c = ap shape_answer_for (sym c.in-0.keys1)
 
-returns-2 : tie.Need-returns-2
+returns-2 : tie.Need-returns-in-1
 unfolding shape_answer shape_answer_for
-returns-2 c = ap shape_answer_for (sym c.match.keys2)
+returns-2 c = ap shape_answer_for (sym c.in-1.keys2)
 
-returns-3 : tie.Need-returns-3
+returns-3 : tie.Need-returns-in-2
 unfolding shape_answer shape_answer_for
-returns-3 c = ap shape_answer_for (sym c.match.keys3)
+returns-3 c = ap shape_answer_for (sym c.in-2.keys3)
 
-returns-4 : tie.Need-returns-4
+returns-4 : tie.Need-returns-in-3
 unfolding shape_answer shape_answer_for
-returns-4 c = ap shape_answer_for (sym c.match.keys4)
+returns-4 c = ap shape_answer_for (sym c.in-3.keys4)
 
-returns-5 : tie.Need-returns-5
+returns-5 : tie.Need-returns-in-4
 unfolding shape_answer shape_answer_for
-returns-5 c = ap shape_answer_for (sym c.match.keys5)
+returns-5 c = ap shape_answer_for (sym c.in-4.keys5)
 
-returns-6 : tie.Need-returns-6
+returns-6 : tie.Need-returns-in-5
 unfolding shape_answer shape_answer_for
-returns-6 c = ap shape_answer_for (sym c.match.keys6)
+returns-6 c = ap shape_answer_for (sym c.in-5.keys6)
 
-returns-7 : tie.Need-returns-7
+returns-7 : tie.Need-returns-in_default
 unfolding shape_answer
 returns-7 c = sym (shape_above c.before.args.n (omega arith))
 

@@ -5,20 +5,20 @@ use borrow.Author.Rules.{rules}
 use Rattle.kernels.proofs.shape.top_under.Statement.{statement}
 use Rattle.kernels.proofs.shape.top_under.Tie as tie
 
-div-within : tie.Need-nonzero-div-within
+div-within : tie.Need-nonzero_div-within
 div-within c = omega (arith, boxes_some c.before.before.args.s, c.boxes.ensures)
 
-cast-result : tie.Need-overflow-cast-result
-cast-result c = omega (arith, top_small c.before.before.before.args.s, c.before.before.top.ensures)
+cast-result : tie.Need-overflow_cast-result
+cast-result c = omega (arith, top_small c.before.before.before.args.s, c.before.before.top-most.ensures)
 
-returns : tie.Need-returns
-returns c = rw (← c.before.boxes.ensures, ← c.before.before.top.ensures) (omega arith)
+returns : tie.Need-returns-then-within-most
+returns c = rw (← c.before.boxes.ensures, ← c.before.before.top-most.ensures) (omega arith)
 
-cast-result-2 : tie.Need-overflow-cast-result-2
-cast-result-2 c = omega (arith, top_small c.before.before.before.args.s, c.before.before.top.ensures)
+cast-result-2 : tie.Need-overflow_cast-result-2
+cast-result-2 c = omega (arith, top_small c.before.before.before.args.s, c.before.before.top-most.ensures)
 
-returns-2 : tie.Need-returns-2
-returns-2 c = rw (← c.before.boxes.ensures, ← c.before.before.top.ensures) (omega arith)
+returns-2 : tie.Need-returns
+returns-2 c = rw (← c.before.boxes.ensures, ← c.before.before.top-most.ensures) (omega arith)
 
 pub top_under_spec : {M : Type 1} → statement M
 top_under_spec =

@@ -20,76 +20,76 @@ abbrev side : tie.Start → ℕ
 side c = 2 * c.args.radius + 1
 
 -- the tent and the triple have low tops
-tent-side : (c : tie.After-enum-told2) → side c.before.before ≤ 17
-tent-side c = omega (arith, rw c.enum-told2.given.1 at c.before.before.requires)
+tent-side : (c : tie.In-Tent) → side c.before.before ≤ 17
+tent-side c = omega (arith, rw c.in-Tent.is at c.before.before.requires)
 
-triple-side : (c : tie.After-enum-told3) → side c.before.before ≤ 7
-triple-side c = omega (arith, rw c.enum-told3.given.1 at c.before.before.requires)
+triple-side : (c : tie.In-Triple) → side c.before.before ≤ 7
+triple-side c = omega (arith, rw c.in-Triple.is at c.before.before.requires)
 
-mul-result : tie.Need-overflow-mul-result
+mul-result : tie.Need-overflow_mul-result
 mul-result c = product_fits _ _ (omega arith) (omega arith)
 
-mul-axis : tie.Need-overflow-mul-axis
+mul-axis : tie.Need-overflow_mul-axis
 mul-axis c = product_fits _ _ (omega arith) (omega arith)
 
-mul-result-2 : tie.Need-overflow-mul-result-2
+mul-result-2 : tie.Need-overflow_mul-result-in-Tent
 mul-result-2 c = let h = product_le _ _ 17 17 (tent-side c) (tent-side c) in product_fits _ _ (omega arith) (omega arith)
 
-mul-axis-2 : tie.Need-overflow-mul-axis-2
+mul-axis-2 : tie.Need-overflow_mul-axis-in-Triple
 mul-axis-2 c = product_fits _ _ (omega arith) (omega arith)
 
-mul-axis-3 : tie.Need-overflow-mul-axis-3
+mul-axis-3 : tie.Need-overflow_mul-axis-in-Triple-2
 mul-axis-3 c = let h = product_le _ _ 7 7 (triple-side c) (triple-side c) in product_fits _ _ (omega arith) (omega arith)
 
-mul-result-3 : tie.Need-overflow-mul-result-3
+mul-result-3 : tie.Need-overflow_mul-result-in-Triple
 mul-result-3 c =
     let h = product_le _ _ (7 * 7) 7 (product_le _ _ 7 7 (triple-side c) (triple-side c)) (triple-side c) in
     product_fits _ _ (omega arith) (omega arith)
 
-mul-result-5 : tie.Need-overflow-mul-result-5
+mul-result-5 : tie.Need-overflow_mul-result-in-Diamond-2
 mul-result-5 c = product_fits _ _ (omega arith) (omega arith)
 
-add-result : tie.Need-overflow-add-result
+add-result : tie.Need-overflow_add-result
 add-result c = sum_fits _ _ _ (omega arith) (omega arith) (omega arith)
 
-mul-result-8 : tie.Need-overflow-mul-result-8
+mul-result-8 : tie.Need-overflow_mul-result-in-Hexagon-3
 mul-result-8 c = product_fits _ _ (omega arith) (omega arith)
 
-add-result-2 : tie.Need-overflow-add-result-2
+add-result-2 : tie.Need-overflow_add-result-in-Hexagon
 add-result-2 c = sum_fits _ _ _ (omega arith) (omega arith) (omega arith)
 
-mul-result-10 : tie.Need-overflow-mul-result-10
+mul-result-10 : tie.Need-overflow_mul-result-in-Octagon-2
 mul-result-10 c = product_fits _ _ (omega arith) (omega arith)
 
-mul-result-12 : tie.Need-overflow-mul-result-12
+mul-result-12 : tie.Need-overflow_mul-result-in-Octagon-4
 mul-result-12 c = product_fits _ _ (omega arith) (omega arith)
 
-add-result-5 : tie.Need-overflow-add-result-5
+add-result-5 : tie.Need-overflow_add-result-in-Octagon-3
 add-result-5 c = sum_fits _ _ _ (product_le _ _ 511 511 (omega arith) (omega arith)) (omega arith) (omega arith)
 
-returns : tie.Need-returns
+returns : tie.Need-returns-in-Box
 unfolding counted_area
-returns c = rw (c.enum_told.given.1, area_counted)
+returns c = rw (c.in-Box.is, area_counted)
 
-returns-2 : tie.Need-returns-2
+returns-2 : tie.Need-returns-in-Tent
 unfolding counted_area
-returns-2 c = rw (c.enum-told2.given.1, area_counted)
+returns-2 c = rw (c.in-Tent.is, area_counted)
 
-returns-3 : tie.Need-returns-3
+returns-3 : tie.Need-returns-in-Triple
 unfolding counted_area
-returns-3 c = rw (c.enum-told3.given.1, area_counted)
+returns-3 c = rw (c.in-Triple.is, area_counted)
 
-returns-4 : tie.Need-returns-4
+returns-4 : tie.Need-returns-in-Diamond
 unfolding counted_area
-returns-4 c = rw (c.enum-told4.given.1, area_counted)
+returns-4 c = rw (c.in-Diamond.is, area_counted)
 
-returns-5 : tie.Need-returns-5
+returns-5 : tie.Need-returns-in-Hexagon
 unfolding counted_area
-returns-5 c = rw (c.enum-told5.given.1, area_counted)
+returns-5 c = rw (c.in-Hexagon.is, area_counted)
 
-returns-6 : tie.Need-returns-6
+returns-6 : tie.Need-returns-in-Octagon
 unfolding counted_area
-returns-6 c = rw (c.enum-told6.given.1, area_counted)
+returns-6 c = rw (c.in-Octagon.is, area_counted)
 
 pub area_of_spec : {M : Type 1} → statement M
 area_of_spec =

@@ -7,16 +7,16 @@ use borrow.Author.Rules.{rules}
 use Rattle.kernels.proofs.share.share_in.Statement.{statement}
 use Rattle.kernels.proofs.share.share_in.Tie as tie
 
-element-copy-out-each : tie.Need-element-copy-out-each
+element-copy-out-each : tie.Need-bounds-table-place
 element-copy-out-each c = omega (arith, number_le c.before.before.args.s)
 
-element-copy-out-rest : tie.Need-element-copy-out-rest
+element-copy-out-rest : tie.Need-bounds-table-place-then-radius-lt-RADII
 element-copy-out-rest c = omega (arith, number_le c.before.before.before.args.s)
 
-returns : tie.Need-returns
+returns : tie.Need-returns-then-radius-lt-RADII
 returns c = rw c.before.before.number.ensures (sym (share_there _ _ _ (omega arith)))
 
-returns-2 : tie.Need-returns-2
+returns-2 : tie.Need-returns-else-radius-lt-RADII
 returns-2 c = sym (share_nowhere _ _ _ (omega arith))
 
 pub share_in_spec : {M : Type 1} → statement M
