@@ -1,5 +1,5 @@
--- The second form of show: the finished sums are handed out with the pictures.
-use Rattle.std.specs.Prelude.{◌≡◌, ℕ, ◌+◌, List, length, slice_index}
+-- The second form of show: finished sums that are kept, and the pictures rounded from them.
+use Rattle.std.specs.Prelude.{◌≡◌, ℕ, ◌+◌, ◌*◌, ◌<◌, ◌≤◌, List, length, slice_index}
 use Rattle.plate_model.specs.declared.size.Size.{Size}
 use Rattle.plate_model.specs.Layout.{sums_in_all}
 use Rattle.plate_model.specs.declared.state.State.{State}
@@ -7,14 +7,39 @@ use Rattle.plate_model.specs.Lent.{Views}
 use Rattle.plate_model.specs.declared.state.Outcome.TheVariants.{Accepted}
 use Rattle.plate_model.specs.Calls.{answer_of}
 use Rattle.plate_model.specs.Kept.{shows_kept, show_kept_by}
-use Rattle.plate.specs.Passes.{Written, row_start}
-use Rattle.plate.specs.Showing.{ShowReady}
+use Rattle.plate.specs.Passes.{Channel, matte_after, Written, row_start}
+use Rattle.plate.specs.Showing.{Image, BothIn, BothTo, sum_in, ShowReady}
 
--- the sums of the image are handed out: light's from the first cell on and matte's after them
-abbrev pub SumsKept : List ℕ → ℕ → List ℕ → List ℕ → Type 0
-SumsKept sums places old new =
-    Written 2 0 places (row_start 0 places) (λ c x. slice_index sums (row_start 0 places c + x)) old new
+-- ONE ROW
+-- its finished sums start at `light` and `matte` in the scratch, and have room from `first` and then from `second` on
+pub record KeepIn (scratch sums : List ℕ) (light matte first second width : ℕ) : Type 0 where
+  pub light_in : light + width ≤ length scratch
+  pub matte_in : matte + width ≤ length scratch
+  pub first_in : first + width ≤ second
+  pub second_in : second + width ≤ length sums
 
+-- light's are kept from `first` on and matte's from `second` on, and nothing else is changed
+abbrev pub RowKept : List ℕ → ℕ → ℕ → ℕ → ℕ → ℕ → List ℕ → List ℕ → Type 0
+RowKept scratch light matte first second width old new =
+    Written 2 width (row_start first second) (λ c x. slice_index scratch (row_start light matte c + x)) old new
+
+-- THE IMAGE
+-- the rows of both above the image are summed; it ends at the last column summed, its rows are in the planes, and there is
+-- room for its sums
+pub record KeepReady (light : Channel) (image : Image) (scratch planes sums : List ℕ) : Type 0 where
+  pub fits : BothIn light scratch planes
+  pub to : BothTo light planes scratch image.first
+  pub columns_are : image.first + image.width ≡ light.columns
+  pub rows_in : image.first + image.height ≤ light.high
+  pub sums_are : length sums ≡ 2 * (image.width * image.height)
+
+-- the sums of its first rows are kept: light's by place, and matte's after all of light's
+pub record KeptTo (light : Channel) (image : Image) (planes sums : List ℕ) (rows : ℕ) : Type 0 where
+  pub in_light : (x y : ℕ) → x < image.width → y < rows → slice_index sums (y * image.width + x) ≡ sum_in light image planes x y
+  pub in_matte : (x y : ℕ) → x < image.width → y < rows
+      → slice_index sums (image.width * image.height + (y * image.width + x)) ≡ sum_in (matte_after light) image planes x y
+
+-- THE CALL
 -- what an accepted show may count on
 pub record ShowKeptReady (z : Size) (planes scratch values mattes sums : List ℕ) : Type 0 where
   pub show : ShowReady z planes scratch values mattes

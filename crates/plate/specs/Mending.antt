@@ -68,7 +68,7 @@ level_amounts g = record { light = g.value * given_at g 0; matte = given_at g 0 
 
 -- a number is added to each sum of a run
 abbrev pub RunAdded : ℕ → ℕ → ℕ → List ℕ → List ℕ → Type 0
-RunAdded first count by old new = Written 1 0 count (λ c. first) (λ c i. (slice_index old (first + i) + by) % 2 ^ 64) old new
+RunAdded first count by old new = Written 1 count (λ c. first) (λ c i. (slice_index old (first + i) + by) % 2 ^ 64) old new
 
 -- a range of the row that starts at a place has its sums of light, and as many on those of matte
 pub record RunIn (n start : ℕ) (s : CellRange) (sums : List ℕ) : Type 0 where

@@ -6,7 +6,7 @@ use Rattle.plate_model.specs.declared.state.Outcome.TheVariants.{Accepted}
 use Rattle.plate_model.specs.declared.total.Totals.{Totals}
 use Rattle.plate_model.specs.Total.{totalled, total_by}
 use Rattle.plate.specs.Frame.{Frame}
-use Rattle.plate.specs.Passes.{Channel, planes_in, SummedTo, Whole, RowsSummed}
+use Rattle.plate.specs.Passes.{Channel, planes_in}
 pub use Rattle.plate.specs.Showing.{TotalReady}
 
 -- a channel of a plate, all columns of it, whose marks start at a place
@@ -17,17 +17,10 @@ whole_channel f marks = record { columns = f.wide; wide = f.wide; high = f.high;
 unfoldable pub finished_to : Channel → List ℕ → ℕ → ℕ
 finished_to channel planes rows = sum (λ y. sum (λ x. finish (planes_in channel planes) x y) channel.columns) rows
 
--- its first rows are summed, whatever the rising lines started with, and added up; if they started with all their marks, what
--- that makes are the finished cells, wrapped
-pub record RowsAdded (channel : Channel) (planes old new : List ℕ) (rows result : ℕ) : Type 0 where
-  pub rows_are : RowsSummed channel planes old new 0 rows
-  pub sum_is : (start : ℕ → ℕ) → SummedTo channel planes start old 0 0 → Whole channel planes start
-      → result ≡ finished_to channel planes rows % 2 ^ 64
-
--- all its finished cells are added up, wrapped, and the scratch is as long as it was
-pub record AddedUp (channel : Channel) (planes old new : List ℕ) (result : ℕ) : Type 0 where
+-- they are added up, wrapped, and the scratch is as long as it was
+pub record AddedUp (channel : Channel) (planes old new : List ℕ) (rows result : ℕ) : Type 0 where
   pub same : length new ≡ length old
-  pub sum_is : result ≡ finished_to channel planes channel.high % 2 ^ 64
+  pub sum_is : result ≡ finished_to channel planes rows % 2 ^ 64
 
 -- what an accepted total has done
 abbrev pub TotalDone : State → List ℕ → List ℕ → List ℕ → Totals → Type 0

@@ -18,7 +18,7 @@ use plate_model::state::{Outcome, Refusal, State};
 use plate_model::word::Pixel;
 
 // The pixel that a put asks for, or why it is refused.
-#[derive(Drop)]
+#[derive(Clone, Copy)]
 pub(crate) enum PixelRead {
     ToPut(Pixel),
     NoPut(Refusal),

@@ -1,44 +1,68 @@
-// The second forms of show, put and undo. The show hands the finished sums of the image out: it is the first form, but for what
-// is done with the sums. The put and the undo are the first forms, and mend sums and pictures where the old or the new kernel
-// reaches.
-ghost use Rattle.std.specs.Prelude.{◌≡◌, ◌*◌, length};
+// The second forms of show, put and undo. The show keeps the finished sums of the image: its passes are those of the first form,
+// and the pictures are rounded from the sums that are kept. The put and the undo are the first forms, and mend sums and pictures
+// where the old or the new kernel reaches.
+ghost use Rattle.std.specs.Prelude.{◌≡◌};
 ghost use Rattle.plate_model.specs.Lent.{ask, lent_at_entry, lent_at_exit, views_at_entry, views_at_exit, canvas_at_entry, canvas_at_exit};
 ghost use Rattle.plate_model.specs.Kept.{leaves_kept, put_kept_call, undo_kept_call, show_kept_call, shows_kept};
-ghost use Rattle.plate.specs.Showing.{RowIn, RowShown};
-ghost use Rattle.plate.specs.Keeping.{SumsKept, ShowKeptReady, ShowKeptDone};
+ghost use Rattle.plate.specs.Keeping.{KeepIn, RowKept, KeepReady, KeptTo, ShowKeptReady, ShowKeptDone};
 
 use crate::change::{read_put, read_undo};
 use crate::check::{check_kept, check_show_kept};
 use crate::clear::clear;
 use crate::mend::mend;
+use crate::pass::{Channel, matte_after};
 use crate::put::{asked, log_and_exchange};
-use crate::show::keep_both;
+use crate::show::{Image, light_channel, round_row, sum_above, sum_both};
 use crate::state::refused;
 use crate::undo::unlog_and_exchange;
-use kernels::rounding::{shown_matte, shown_value};
+use kernels_model::fixed::MARGIN;
 use plate_model::change::ChangeRead;
 use plate_model::state::{Answer, Outcome, State};
 
-// The pictures from the sums, light's from the first cell on and matte's after them, and the sums kept.
-fn round_and_keep(
-    values: &mut [u16],
-    mattes: &mut [u8],
-    kept: &mut [u64],
-    sums: &[u64],
-    places: usize,
+// A row's finished sums, which start at `light` and `matte`, kept from `first` and from `second` on.
+fn keep_row(
+    sums: &mut [u64],
+    scratch: &[u64],
+    light: usize,
+    matte: usize,
+    first: usize,
+    second: usize,
+    width: usize,
 )
-    requires { RowIn sums.now values.old mattes.old 0 places 0 places × (length kept.old ≡ 2 * places) }
-    ensures { RowShown sums.now 0 places 0 places values.old values.new
-        mattes.old mattes.new
-        × SumsKept sums.now places kept.old kept.new }
+    requires { KeepIn scratch.now sums.old light matte first second width }
+    ensures { RowKept scratch.now light matte first second width sums.old sums.new }
 {
-    for i in 0..places {
-        let light = sums[i];
-        let matte = sums[places + i];
-        kept[i] = light;
-        kept[places + i] = matte;
-        values[i] = shown_value(light, matte);
-        mattes[i] = shown_matte(matte);
+    for x in 0..width {
+        sums[first + x] = scratch[light + x];
+        sums[second + x] = scratch[matte + x];
+    }
+}
+
+// The rows of the image: each is summed, and its sums are kept while they are at hand.
+fn keep_rows(sums: &mut [u64], scratch: &mut [u64], planes: &[u64], light: Channel, image: Image)
+    requires { KeepReady light image scratch.old planes.now sums.old }
+    ensures { KeptTo light image planes.now sums.new image.height }
+{
+    let matte = matte_after(light);
+    let first = image.first;
+    let width = image.width;
+    let height = image.height;
+    let places = width * height;
+    let light_end = matte.sums;
+    let light_down = light_end - width;
+    let matte_down = light_down + (light_end - light.sums);
+    for row in 0..height {
+        sum_both(scratch, planes, light, first + row);
+        let place = row * width;
+        keep_row(
+            sums,
+            scratch,
+            light_down,
+            matte_down,
+            place,
+            places + place,
+            width,
+        );
     }
 }
 
@@ -56,9 +80,16 @@ fn keep_all(
         (views_at_exit scratch values mattes) sums.old sums.new }
 {
     let size = state.size;
+    let light = light_channel(size);
+    let image = Image {
+        first: size.reach + MARGIN,
+        width: size.width,
+        height: size.height,
+    };
+    sum_above(scratch, planes, light, image.first);
+    keep_rows(sums, scratch, planes, light, image);
     let places = size.width * size.height;
-    keep_both(scratch, planes, size);
-    round_and_keep(values, mattes, sums, scratch, places);
+    round_row(values, mattes, sums, 0, places, 0, places);
     clear(scratch);
 }
 

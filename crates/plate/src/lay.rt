@@ -18,14 +18,14 @@ use kernels_model::fixed::{LEVEL, MARGIN, PLANES_EACH};
 use plate_model::word::Pixel;
 
 // What a mark of coefficient 1 adds in light and in matte. Both wrap: to take a kernel off is to lay what wraps to its opposite.
-#[derive(Drop)]
+#[derive(Clone, Copy)]
 pub struct Amounts {
     pub light: u64,
     pub matte: u64,
 }
 
 // The cells of a padded plane, in a row and in all, and the one that a drawing has as its corner.
-#[derive(Drop)]
+#[derive(Clone, Copy)]
 pub struct Origin {
     pub wide: usize,
     pub padded: usize,

@@ -25,7 +25,7 @@ use plate_model::state::{Answer, Outcome, Refusal, State};
 use plate_model::word::Pixel;
 
 // What all pixels of a fill share, made once: the plate's frame, the lens, the shape and its largest radius there.
-#[derive(Drop)]
+#[derive(Clone, Copy)]
 pub struct Layer {
     pub frame: Frame,
     pub lens: Lens,
@@ -34,7 +34,7 @@ pub struct Layer {
 }
 
 // What a fill is to lay, or why it is refused.
-#[derive(Drop)]
+#[derive(Clone, Copy)]
 pub enum LayerRead {
     ToFill(Layer),
     NoFill(Refusal),

@@ -22,7 +22,7 @@ use plate_model::size::Size;
 use plate_model::word::Pixel;
 
 // What a pixel gives the cells of one row: its value and its opacity, and its kernel's row.
-#[derive(Drop)]
+#[derive(Clone, Copy)]
 pub struct Given {
     pub value: u64,
     pub opacity: u64,
@@ -30,7 +30,7 @@ pub struct Given {
 }
 
 // Cells of a line one after the other: from `first` on, up to the one before `past`.
-#[derive(Drop)]
+#[derive(Clone, Copy)]
 pub struct CellRange {
     pub first: usize,
     pub past: usize,

@@ -1,144 +1,127 @@
-// Show: the planes finished into the two pictures. The sums of light's image and then of matte's are kept in the scratch, and
-// when both are there the pictures are rounded from them.
-ghost use Rattle.std.specs.Prelude.{◌≡◌, ◌+◌, ◌≤◌, length};
+// Show: the planes finished into the two pictures. One pass over the rows sums light and matte side by side and rounds each row
+// of the image at once, so that no channel's sums are ever stored.
+ghost use Rattle.std.specs.Prelude.{◌≡◌, ◌+◌};
 ghost use Rattle.plate_model.specs.Lent.{views_at_entry, views_at_exit};
 ghost use Rattle.plate_model.specs.Calls.{show_call, shows};
 ghost use Rattle.plate_model.specs.Table.{LawfulSize};
-ghost use Rattle.plate.specs.Passes.{ChannelIn, RowsSummed};
-ghost use Rattle.plate.specs.Frame.{frame_of};
-ghost use Rattle.plate.specs.Showing.{image_channel, RowKept, ImageIn, KeptTo, ChannelKept, TotalReady, BothKept};
-ghost use Rattle.plate.specs.Showing.{RowIn, RowShown, ShowReady, ShowDone};
+ghost use Rattle.plate.specs.Showing.{light_channel, BothIn, AboveReady, BothReady, BothSummed, RowIn, RowShown, ImageReady};
+ghost use Rattle.plate.specs.Showing.{ShownTo, ShowReady, ShowDone};
 
 use crate::check::check_show;
 use crate::clear::clear;
-use crate::pass::{Channel, start_again, start_sums, starts_at, sum_row, take_below};
-use crate::size::{Frame, frame_of};
+use crate::pass::{Channel, matte_after, start_sums, sum_next};
+use crate::size::frame_of;
 use kernels::rounding::{shown_matte, shown_value};
-use kernels_model::fixed::{MARGIN, PLANES_EACH};
+use kernels_model::fixed::MARGIN;
 use plate_model::size::Size;
 use plate_model::state::{Answer, Outcome, State};
 
 // The image in a padded plane: its first column, which is its first row as well, and its sizes.
-#[derive(Drop)]
+#[derive(Clone, Copy)]
 pub(crate) struct Image {
     pub first: usize,
     pub width: usize,
     pub height: usize,
 }
 
-// A channel of a plate whose marks start here. It is summed up to the image's last column, since no sum goes leftwards; its sums
-// come after those of the image that both channels keep.
-fn image_channel(frame: Frame, marks: usize) -> Channel
-    requires { LawfulSize frame.size × (frame ≡ frame_of frame.size) }
-    ensures { result ≡ image_channel frame marks }
+// Light of a plate's planes: it is summed up to the image's last column, since no sum goes leftwards.
+pub(crate) fn light_channel(size: Size) -> Channel
+    requires { LawfulSize size }
+    ensures { result ≡ light_channel size }
 {
-    let size = frame.size;
+    let frame = frame_of(size);
     Channel {
         columns: size.reach + MARGIN + size.width,
         wide: frame.wide,
         high: frame.high,
-        sums: 2 * frame.places,
-        marks: marks,
+        sums: 0,
+        marks: 0,
     }
 }
 
-// The rows above the image.
-fn sum_above(scratch: &mut [u64], planes: &[u64], channel: Channel, rows: usize)
-    requires { ChannelIn channel scratch.old planes.now × (rows ≤ channel.high) }
-    ensures { RowsSummed channel planes.now scratch.old scratch.new 0 rows }
+// Both channels' sums, before the first row.
+fn lay_both(scratch: &mut [u64], planes: &[u64], light: Channel)
+    requires { BothIn light scratch.old planes.now }
+    ensures { BothSummed light planes.now scratch.old scratch.new 0 }
 {
+    let matte = matte_after(light);
+    start_sums(scratch, planes, light);
+    start_sums(scratch, planes, matte);
+}
+
+// Both channels' sums, one row further.
+pub(crate) fn sum_both(scratch: &mut [u64], planes: &[u64], light: Channel, row: usize)
+    requires { BothReady light scratch.old planes.now row }
+    ensures { BothSummed light planes.now scratch.old scratch.new (row + 1) }
+{
+    let matte = matte_after(light);
+    sum_next(scratch, planes, light, row);
+    sum_next(scratch, planes, matte, row);
+}
+
+// The rows above the image: they are summed, and nothing is shown of them.
+pub(crate) fn sum_above(scratch: &mut [u64], planes: &[u64], light: Channel, rows: usize)
+    requires { AboveReady light scratch.old planes.now rows }
+    ensures { BothSummed light planes.now scratch.old scratch.new rows }
+{
+    lay_both(scratch, planes, light);
     for row in 0..rows {
-        sum_row(scratch, planes, channel, row);
+        sum_both(scratch, planes, light, row);
     }
 }
 
-// Cells kept, from a place before them on.
-fn keep_row(scratch: &mut [u64], kept: usize, cells: usize, width: usize)
-    requires { (kept + width ≤ cells) × (cells + width ≤ length scratch.old) }
-    ensures { RowKept kept cells width scratch.old scratch.new }
-{
-    for x in 0..width {
-        scratch[kept + x] = scratch[cells + x];
-    }
-}
-
-// The rows of the image: each is summed, and its sums are kept while they are at hand.
-fn keep_rows(scratch: &mut [u64], planes: &[u64], channel: Channel, image: Image, kept: usize)
-    requires { ImageIn channel image kept scratch.old planes.now }
-    ensures { KeptTo channel image kept planes.now scratch.old scratch.new
-        image.first image.height }
-{
-    let first = image.first;
-    let width = image.width;
-    let height = image.height;
-    let starts = starts_at(channel, 0);
-    let cells = starts.down + first;
-    for row in 0..height {
-        sum_row(scratch, planes, channel, first + row);
-        keep_row(scratch, kept + row * width, cells, width);
-    }
-}
-
-// The rows to the image's last.
-fn sum_image(scratch: &mut [u64], planes: &[u64], channel: Channel, image: Image, kept: usize)
-    requires { ImageIn channel image kept scratch.old planes.now }
-    ensures { KeptTo channel image kept planes.now scratch.old scratch.new 0
-        image.height }
-{
-    sum_above(scratch, planes, channel, image.first);
-    keep_rows(scratch, planes, channel, image, kept);
-}
-
-// The sums of a channel's image, kept from a place on. The rows are gone through once where the planes hold what kernels lay, and
-// else twice.
-fn keep_channel(scratch: &mut [u64], planes: &[u64], channel: Channel, image: Image, kept: usize)
-    requires { ImageIn channel image kept scratch.old planes.now }
-    ensures { ChannelKept channel image kept planes.now scratch.old scratch.new }
-{
-    start_sums(scratch, channel);
-    sum_image(scratch, planes, channel, image, kept);
-    take_below(scratch, planes, channel, image.first + image.height);
-    if start_again(scratch, channel) {
-        sum_image(scratch, planes, channel, image, kept);
-    }
-}
-
-// The sums of light's image and then of matte's, from the scratch's first cell on.
-pub(crate) fn keep_both(scratch: &mut [u64], planes: &[u64], size: Size)
-    requires { TotalReady size planes.now scratch.old }
-    ensures { BothKept size planes.now scratch.old scratch.new }
-{
-    let frame = frame_of(size);
-    let image = Image {
-        first: size.reach + MARGIN,
-        width: size.width,
-        height: size.height,
-    };
-    let light = image_channel(frame, 0);
-    let matte = image_channel(frame, PLANES_EACH * frame.padded);
-    keep_channel(scratch, planes, light, image, 0);
-    keep_channel(scratch, planes, matte, image, frame.places);
-}
-
-// Places of both pictures, from `first` on, of the finished sums that start at `light` and `matte`.
+// A row of the image, from the place `first` on, of the finished sums that start at `light` and `matte`.
 pub(crate) fn round_row(
     values: &mut [u16],
     mattes: &mut [u8],
-    sums: &[u64],
+    scratch: &[u64],
     light: usize,
     matte: usize,
     first: usize,
     width: usize,
 )
-    requires { RowIn sums.now values.old mattes.old light matte first width }
-    ensures { RowShown sums.now light matte first width values.old values.new
+    requires { RowIn scratch.now values.old mattes.old light matte first width }
+    ensures { RowShown scratch.now light matte first width values.old values.new
         mattes.old mattes.new }
 {
     for x in 0..width {
         let place = first + x;
-        let matte_sum = sums[matte + x];
-        values[place] = shown_value(sums[light + x], matte_sum);
+        let matte_sum = scratch[matte + x];
+        values[place] = shown_value(scratch[light + x], matte_sum);
         mattes[place] = shown_matte(matte_sum);
+    }
+}
+
+// The rows of the image: each is summed, and shown while its sums are at hand.
+fn show_rows(
+    values: &mut [u16],
+    mattes: &mut [u8],
+    scratch: &mut [u64],
+    planes: &[u64],
+    light: Channel,
+    image: Image,
+)
+    requires { ImageReady light image scratch.old planes.now values.old mattes.old }
+    ensures { ShownTo light image planes.now values.new mattes.new image.height }
+{
+    let matte = matte_after(light);
+    let first = image.first;
+    let width = image.width;
+    let height = image.height;
+    let light_end = matte.sums;
+    let light_down = light_end - width;
+    let matte_down = light_down + (light_end - light.sums);
+    for row in 0..height {
+        sum_both(scratch, planes, light, first + row);
+        round_row(
+            values,
+            mattes,
+            scratch,
+            light_down,
+            matte_down,
+            row * width,
+            width,
+        );
     }
 }
 
@@ -155,9 +138,14 @@ fn show_all(
         (views_at_exit scratch values mattes) }
 {
     let size = state.size;
-    let places = size.width * size.height;
-    keep_both(scratch, planes, size);
-    round_row(values, mattes, scratch, 0, places, 0, places);
+    let light = light_channel(size);
+    let image = Image {
+        first: size.reach + MARGIN,
+        width: size.width,
+        height: size.height,
+    };
+    sum_above(scratch, planes, light, image.first);
+    show_rows(values, mattes, scratch, planes, light, image);
     clear(scratch);
 }
 

@@ -7,7 +7,7 @@ use plate_model::fixed::BORDER;
 use plate_model::size::Size;
 
 // A padded plane: the cells of a row, its rows, and its cells in all; and the places of the image.
-#[derive(Drop)]
+#[derive(Clone, Copy)]
 pub struct Frame {
     pub size: Size,
     pub wide: usize,

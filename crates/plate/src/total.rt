@@ -1,14 +1,14 @@
 // The light and matte that a plate holds in all: the finished cells of the two padded channels, added up. The sums of a row are
-// show's, here of all columns and rows.
+// show's; here the channels go one after the other, since the scratch of a small plate has no room for all columns of both.
 ghost use Rattle.std.specs.Prelude.{◌≡◌, ◌+◌, ◌%◌, ◌^◌, ◌≤◌, length, slice_index};
 ghost use Rattle.kernels_model.specs.Sum.{sum as sum_of};
 ghost use Rattle.plate_model.specs.Total.{totalled, total_call};
 ghost use Rattle.plate.specs.Passes.{ChannelIn};
-ghost use Rattle.plate.specs.Totalling.{whole_channel, RowsAdded, AddedUp, TotalReady, TotalDone};
+ghost use Rattle.plate.specs.Totalling.{whole_channel, AddedUp, TotalReady, TotalDone};
 
 use crate::check::check_total;
 use crate::clear::clear;
-use crate::pass::{Channel, start_again, start_sums, starts_at, sum_row};
+use crate::pass::{Channel, start_sums, starts_at, sum_next};
 use crate::size::{Frame, frame_of};
 use kernels_model::fixed::PLANES_EACH;
 use plate_model::state::{Answer, Outcome, State};
@@ -27,40 +27,28 @@ fn add_cells(cells: &[u64], first: usize, count: usize, to: u64) -> u64
     sum
 }
 
-// All finished cells of a channel, added up row by row. What they make counts if the rising lines started with what theirs make.
-fn add_rows(scratch: &mut [u64], planes: &[u64], channel: Channel) -> u64
-    requires { ChannelIn channel scratch.old planes.now }
-    ensures { RowsAdded channel planes.now scratch.old scratch.new channel.high result }
+// All finished cells of the channel whose marks start at `marks`, added up row by row, to the last one.
+fn add_up(scratch: &mut [u64], planes: &[u64], frame: Frame, marks: usize) -> u64
+    requires { ChannelIn (whole_channel frame marks) scratch.old planes.now }
+    ensures { AddedUp (whole_channel frame marks) planes.now scratch.old scratch.new
+        frame.high result }
 {
-    let columns = channel.columns;
-    let high = channel.high;
+    let columns = frame.wide;
+    let high = frame.high;
+    let channel = Channel {
+        columns: columns,
+        wide: columns,
+        high: high,
+        sums: 0,
+        marks: marks,
+    };
+    start_sums(scratch, planes, channel);
     let starts = starts_at(channel, 0);
     let down = starts.down;
     let mut sum = 0;
     for row in 0..high {
-        sum_row(scratch, planes, channel, row);
+        sum_next(scratch, planes, channel, row);
         sum = add_cells(scratch, down, columns, sum);
-    }
-    sum
-}
-
-// All finished cells of the channel whose marks start here, added up. The rows are gone through once where the planes hold what
-// kernels lay, and else twice.
-fn add_up(scratch: &mut [u64], planes: &[u64], frame: Frame, marks: usize) -> u64
-    requires { ChannelIn (whole_channel frame marks) scratch.old planes.now }
-    ensures { AddedUp (whole_channel frame marks) planes.now scratch.old scratch.new result }
-{
-    let channel = Channel {
-        columns: frame.wide,
-        wide: frame.wide,
-        high: frame.high,
-        sums: 0,
-        marks: marks,
-    };
-    start_sums(scratch, channel);
-    let sum = add_rows(scratch, planes, channel);
-    if start_again(scratch, channel) {
-        return add_rows(scratch, planes, channel);
     }
     sum
 }

@@ -1,6 +1,6 @@
 -- What calls are given and lent.
 use Rattle.std.specs.Prelude.{List, ℕ, length}
-use Rattle.std.specs.Borrow.{Bor}
+use Rattle.std.specs.Borrow.{MutBor}
 use denote.Triple.Both.{Both}
 use Rattle.kernels_model.specs.Shape.{shape_of}
 use Rattle.plate_model.specs.Layout.{Size}
@@ -62,7 +62,7 @@ canvas sums values mattes = record { sums = sums; values = values; mattes = matt
 -- AT A CALL'S START AND END
 -- a buffer that a call may write to, as it is when the call starts and when it ends
 abbrev pub Borrowed : Type 0
-Borrowed = Both (Bor (List ℕ)) (Bor (List ℕ))
+Borrowed = Both (MutBor (List ℕ)) (MutBor (List ℕ))
 
 abbrev pub lent_at_entry : Borrowed → Borrowed → Borrowed → Lent
 lent_at_entry planes pixels log = lent planes.entry.now pixels.entry.now log.entry.now

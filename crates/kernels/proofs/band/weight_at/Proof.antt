@@ -30,7 +30,7 @@ same_le d n = by_eq d 0 (λ e. omega (arith, same_yes d 0 n e)) (λ k. omega (ar
 
 middle-low : (c : tie.After-in_middle-middle) → c.in_middle-middle.result ≤ 2 ^ 32
 middle-low c =
-    let s = start c in omega (arith, c.in_middle-middle.ensures, same_le s.args.dx s.args.band.rest, s.good)
+    let s = start c in omega (arith, c.in_middle-middle.ensures, same_le s.args.dx s.args.band.rest, s.well_formed)
 
 -- the tap is the boxes', and below 2 ^ 20
 tap-known : (c : tie.After-box_tap) → let a = (start c.before.before.before).args in
@@ -44,7 +44,7 @@ taps-low : (c : tie.After-box_tap) → let b = (start c.before.before.before).ar
     b.each * b.own * c.box_tap.result ≤ 2 ^ 32 * 2 ^ 8 * 2 ^ 20
 taps-low c =
     let s = start c.before.before.before in
-    let small = tap_small s.args.band.shape s.args.band.radius s.args.dx (omega (arith, s.good)) in
+    let small = tap_small s.args.band.shape s.args.band.radius s.args.dx (omega (arith, s.well_formed)) in
     product_le _ _ (2 ^ 32 * 2 ^ 8) (2 ^ 20) (worth-low s) (omega (arith, tap-known c, small))
 
 returns : tie.Need-returns-then-band-dx
@@ -72,7 +72,7 @@ box-tap-requires : tie.Need-box_tap-requires
 box-tap-requires c κs =
     let s = start c.before.before in
     let b = s.args.band in
-    omega (arith, c.before.before.before.before.before.boxes-n.ensures, boxes_some b.shape, boxes_few b.shape, s.good)
+    omega (arith, c.before.before.before.before.before.boxes-n.ensures, boxes_some b.shape, boxes_few b.shape, s.well_formed)
 
 mul-result : tie.Need-overflow_mul-result
 mul-result c = omega (arith, taps-low c)

@@ -3,7 +3,6 @@ use mathlib.Core.Path.{◌≡◌, ap, sym, ◌∙◌}
 use mathlib.Core.Bool.{true}
 use native.Mathlib.Omega.{arith}
 use borrow.Author.Rules.{rules}
-use borrow.Author.Tests.{not-true, not-false}
 use Rattle.kernels_model.specs.Fixed.{accepted}
 use Rattle.kernels_model.specs.NumberAndValue.{number_and_value}
 use Rattle.kernels_model.specs.Lens.{lawful_lens, radius_answer}
@@ -12,11 +11,11 @@ use Rattle.kernels.proofs.lens.radius_from.Statement.{statement}
 use Rattle.kernels.proofs.lens.radius_from.Tie as tie
 
 lawful : (c : tie.Else-not-lawful_lens) → lawful_lens c.before.before.args.l ≡ true
-lawful c = sym c.before.lawful_lens.ensures ∙ not-false _ c.if-not-lawful_lens.false
+lawful c = sym c.before.lawful_lens.ensures ∙ c.if-not-lawful_lens.false
 
 returns : tie.Need-returns-then-not-lawful_lens
 unfolding radius_answer
-returns c = sym (no_lens _ _ _ (sym c.before.lawful_lens.ensures ∙ not-true _ c.if-not-lawful_lens.true))
+returns c = sym (no_lens _ _ _ (sym c.before.lawful_lens.ensures ∙ c.if-not-lawful_lens.true))
 
 returns-2 : tie.Need-returns-then-depth-gt-DEPTH_TOP
 unfolding radius_answer

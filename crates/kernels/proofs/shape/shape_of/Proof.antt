@@ -8,27 +8,27 @@ use Rattle.kernels.proofs.shape.shape_of.Tie as tie
 
 returns : tie.Need-returns-in-0
 unfolding shape_answer shape_answer_for
-returns c = ap shape_answer_for (sym c.in-0.keys1)
+returns c = ap shape_answer_for (sym c.in-0.is)
 
 returns-2 : tie.Need-returns-in-1
 unfolding shape_answer shape_answer_for
-returns-2 c = ap shape_answer_for (sym c.in-1.keys2)
+returns-2 c = ap shape_answer_for (sym c.in-1.is)
 
 returns-3 : tie.Need-returns-in-2
 unfolding shape_answer shape_answer_for
-returns-3 c = ap shape_answer_for (sym c.in-2.keys3)
+returns-3 c = ap shape_answer_for (sym c.in-2.is)
 
 returns-4 : tie.Need-returns-in-3
 unfolding shape_answer shape_answer_for
-returns-4 c = ap shape_answer_for (sym c.in-3.keys4)
+returns-4 c = ap shape_answer_for (sym c.in-3.is)
 
 returns-5 : tie.Need-returns-in-4
 unfolding shape_answer shape_answer_for
-returns-5 c = ap shape_answer_for (sym c.in-4.keys5)
+returns-5 c = ap shape_answer_for (sym c.in-4.is)
 
 returns-6 : tie.Need-returns-in-5
 unfolding shape_answer shape_answer_for
-returns-6 c = ap shape_answer_for (sym c.in-5.keys6)
+returns-6 c = ap shape_answer_for (sym c.in-5.is)
 
 returns-7 : tie.Need-returns-in_default
 unfolding shape_answer

@@ -20,11 +20,11 @@ abbrev side : tie.Start → ℕ
 side c = 2 * c.args.radius + 1
 
 -- the tent and the triple have low tops
-tent-side : (c : tie.In-Tent) → side c.before.before ≤ 17
-tent-side c = omega (arith, rw c.in-Tent.is at c.before.before.requires)
+tent-side : (c : tie.In-Tent) → side c.before ≤ 17
+tent-side c = omega (arith, rw c.in-Tent.is at c.before.requires)
 
-triple-side : (c : tie.In-Triple) → side c.before.before ≤ 7
-triple-side c = omega (arith, rw c.in-Triple.is at c.before.before.requires)
+triple-side : (c : tie.In-Triple) → side c.before ≤ 7
+triple-side c = omega (arith, rw c.in-Triple.is at c.before.requires)
 
 mul-result : tie.Need-overflow_mul-result
 mul-result c = product_fits _ _ (omega arith) (omega arith)

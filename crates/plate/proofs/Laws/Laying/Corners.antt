@@ -73,18 +73,18 @@ matte_cell : (P p n : ℕ) → planes_each * P + (p * P + n) ≡ (planes_each + 
 matte_cell P p n = omega arith
 
 -- the marks of a drawing, moved from the corner
-drawn_laid : (z : Size) (w : Amounts) (a b : ℕ) (cells : List ℕ) (ms : List Mark)
+drawn_laid : (z : Size) (w : Amounts) (a b : ℕ) (ms : List Mark) (cells : List ℕ)
     → lay_drawn (origin_in z a b) w cells ms ≡ lay_all z cells (in_both w.light w.matte (moved a b ms))
 unfolding lay_drawn lay_amounts lay_all in_both moved
-drawn_laid z w a b cells [] = refl
-drawn_laid z w a b cells (m ∷ ms) =
+drawn_laid z w a b [] cells = refl
+drawn_laid z w a b (m ∷ ms) cells =
     rw (
       spot-cell (wide z) (padded z) a b m.plane m.column m.row,
       matte_cell (padded z) m.plane ((m.row + b) * wide z + (m.column + a)),
       lay_one_mod cells _ ((w.light * m.coefficient) % 2 ^ 64) (w.light * m.coefficient) (mod-mod _ _),
       lay_one_mod _ _ ((w.matte * m.coefficient) % 2 ^ 64) (w.matte * m.coefficient) (mod-mod _ _),
     )
-    (drawn_laid z w a b _ ms)
+    (drawn_laid z w a b ms _)
 
 -- KERNELS
 -- the marks around a pixel are those of the drawing, moved by what the kernel leaves of the margin
@@ -121,7 +121,7 @@ module _ (f : Frame) (x y : ℕ) (placed : Placed f x y) where
         ≡ lay_all f.size cells (kernel_at f x y s r w)
     kernel_laid w cells =
         rw (around f.size x y s r placed.column_in reaches, placed.framed)
-        (drawn_laid f.size w _ _ cells (own_marks s r))
+        (drawn_laid f.size w _ _ (own_marks s r) cells)
 
     -- and lie in the planes
     kernel_inside : AllIn (origin_of f (corner_of f x y (reach_of s r))) (own_marks s r)
@@ -196,15 +196,15 @@ pixel_worth f x y p s h e =
 opposite_alike : (l c : ℕ) → ((l * minus 1) % 2 ^ 64 * c) % 2 ^ 64 ≡ (minus 1 * (l * c)) % 2 ^ 64
 opposite_alike l c = times_number l (minus 1) c ∙ ap (λ (n : ℕ). n % 2 ^ 64) (omega arith)
 
-opposite_laid : (z : Size) (l m : ℕ) (cells : List ℕ) (ms : List Mark)
+opposite_laid : (z : Size) (l m : ℕ) (ms : List Mark) (cells : List ℕ)
     → lay_all z cells (in_both ((l * minus 1) % 2 ^ 64) ((m * minus 1) % 2 ^ 64) ms)
     ≡ lay_all z cells (scaled (minus 1) (in_both l m ms))
 unfolding lay_all in_both scaled
-opposite_laid z l m cells [] = refl
-opposite_laid z l m cells (k ∷ ms) =
+opposite_laid z l m [] cells = refl
+opposite_laid z l m (k ∷ ms) cells =
     ap (λ (laid : List ℕ). lay_all z laid (in_both ((l * minus 1) % 2 ^ 64) ((m * minus 1) % 2 ^ 64) ms))
     (lay_alike_both cells (cell_of z k) _ _ _ _ _ (opposite_alike l k.coefficient) (opposite_alike m k.coefficient))
-    ∙ opposite_laid z l m _ ms
+    ∙ opposite_laid z l m ms _
 
 scaled_append : (c : ℕ) (ms ns : List Mark) → scaled c (ms ++ ns) ≡ scaled c ms ++ scaled c ns
 unfolding scaled

@@ -21,24 +21,23 @@ use Rattle.plate.proofs.Laws.Mending.Rows.{change_column, change_row, row-mended
 
 -- ONE RUN
 -- light's run and then matte's
-pub run-given : (n start : ℕ) (s : CellRange) (by : Amounts) (old mid new : List ℕ) → RunIn n start s old
+pub run_given : (n start : ℕ) (s : CellRange) (by : Amounts) (old mid new : List ℕ) → RunIn n start s old
     → RunAdded (start + s.first) (s.past - s.first) by.light old mid
     → RunAdded (n + (start + s.first)) (s.past - s.first) by.matte mid new → RunGiven n start s by old new
-run-given n start s by old mid new inside light matte =
+run_given n start s by old mid new inside light matte =
     record {
       same = matte.same ∙ light.same;
       light_in = λ x low high.
           let at : start + s.first + (x - s.first) ≡ start + x = omega arith in
-          matte.rest (start + x) (λ c i h l g e. omega (arith, inside.past_in, g))
-          ∙ (rw at at (light.done 0 (x - s.first) (omega arith) (omega arith) (omega arith)));
+          matte.rest (start + x) (λ c i h g e. omega (arith, inside.past_in, g))
+          ∙ (rw at at (light.done 0 (x - s.first) (omega arith) (omega arith)));
       matte_in = λ x low high.
           let at : n + (start + s.first) + (x - s.first) ≡ n + (start + x) = omega arith in
-          let before = light.rest (n + (start + x)) (λ c i h l g e. omega (arith, inside.past_in, g)) in
-          (rw at at (matte.done 0 (x - s.first) (omega arith) (omega arith) (omega arith)))
-          ∙ ap (λ (m : ℕ). (m + by.matte) % 2 ^ 64) before;
+          let before = light.rest (n + (start + x)) (λ c i h g e. omega (arith, inside.past_in, g)) in
+          (rw at at (matte.done 0 (x - s.first) (omega arith) (omega arith))) ∙ ap (λ (m : ℕ). (m + by.matte) % 2 ^ 64) before;
       rest = λ j no_light no_matte.
-          matte.rest j (λ c i h l g e. no_matte (s.first + i) (omega arith) (omega (arith, g)) (omega (arith, e)))
-          ∙ light.rest j (λ c i h l g e. no_light (s.first + i) (omega arith) (omega (arith, g)) (omega (arith, e)));
+          matte.rest j (λ c i h g e. no_matte (s.first + i) (omega arith) (omega (arith, g)) (omega (arith, e)))
+          ∙ light.rest j (λ c i h g e. no_light (s.first + i) (omega arith) (omega (arith, g)) (omega (arith, e)));
     }
 
 -- BOTH RUNS
@@ -51,9 +50,9 @@ both_runs k a b G G₀ H H₀ so sn dx old-in old-out new_in new-out near =
     by_lt dx so
     (λ g. by_lt dx sn
     (λ h. let n = new_in h in rw n.1 (wrap_more (k + minus G) H₀ a b (taken g) n.0))
-    (λ h. let n = new-out h in rw n.1 (n.0 ∙ taken g ∙ more-none (k + minus G))))
+    (λ h. let n = new-out h in rw n.1 (n.0 ∙ taken g ∙ more_none (k + minus G))))
     (λ g. by_lt dx sn
-    (λ h. let o = old-out g in let n = new_in h in rw (o.1, n.1) (n.0 ∙ rw o.0 (none-less H₀)))
+    (λ h. let o = old-out g in let n = new_in h in rw (o.1, n.1) (n.0 ∙ rw o.0 (none_less H₀)))
     (λ h. omega (arith, near, g, h)))
   where
     taken : dx < so → a ≡ (k + minus G) % 2 ^ 64
@@ -62,11 +61,11 @@ both_runs k a b G G₀ H H₀ so sn dx old-in old-out new_in new-out near =
         let same : G₀ * minus 1 ≡ minus G = rw o.1 (unfold minus in (omega arith)) in
         o.0 ∙ add-mod-mod k (G₀ * minus 1) (2 ^ 64) ∙ ap (λ (n : ℕ). (k + n) % 2 ^ 64) same
 
-    more-none : (n : ℕ) → n % 2 ^ 64 ≡ (n + 0) % 2 ^ 64
-    more-none n = omega arith
+    more_none : (n : ℕ) → n % 2 ^ 64 ≡ (n + 0) % 2 ^ 64
+    more_none n = omega arith
 
-    none-less : (n : ℕ) → (k + n) % 2 ^ 64 ≡ (k + minus 0 + n) % 2 ^ 64
-    none-less n = unfold minus in (omega arith)
+    none_less : (n : ℕ) → (k + n) % 2 ^ 64 ≡ (k + minus 0 + n) % 2 ^ 64
+    none_less n = unfold minus in (omega arith)
 
 -- what a level row gives a cell: the same in its run, and nothing outside
 given_in : (g : Given) (dx : ℕ) → is_level g.band ≡ true → dx < g.band.span → given_at g dx ≡ given_at g 0
@@ -183,10 +182,8 @@ module _ (z : Size) (c : Change) (row : ℕ) (old new : Given) (k : Canvas) (r :
       record {
         light_is = light;
         matte_is = matte;
-        value_is = (rw (at, at') at (shown.in_values.done 0 (x - wide.first) (omega arith) (omega arith) (omega arith)))
-            ∙ rw (light, matte);
-        shown_is = (rw (at, at') at (shown.in_mattes.done 0 (x - wide.first) (omega arith) (omega arith) (omega arith)))
-            ∙ rw matte;
+        value_is = (rw (at, at') at (shown.in_values.done 0 (x - wide.first) (omega arith) (omega arith))) ∙ rw (light, matte);
+        shown_is = (rw (at, at') at (shown.in_mattes.done 0 (x - wide.first) (omega arith) (omega arith))) ∙ rw matte;
       }
 
   -- a cell of one of the runs is one of the wider
@@ -219,10 +216,10 @@ module _ (z : Size) (c : Change) (row : ℕ) (old new : Given) (k : Canvas) (r :
             (omega (arith, high, old_around.1, around.1, wider)) (omega (arith, e))));
         value_is =
             shown.in_values.rest i
-            (λ c j _ l g e. n (in_wide i (wide.first + j) (omega arith) (omega (arith, g)) (omega (arith, e))));
+            (λ c j _ g e. n (in_wide i (wide.first + j) (omega arith) (omega (arith, g)) (omega (arith, e))));
         shown_is =
             shown.in_mattes.rest i
-            (λ c j _ l g e. n (in_wide i (wide.first + j) (omega arith) (omega (arith, g)) (omega (arith, e))));
+            (λ c j _ g e. n (in_wide i (wide.first + j) (omega arith) (omega (arith, g)) (omega (arith, e))));
       }
 
   pub runs_mended : MendedWhere z c (InRow z c row) k (canvas s₂ v o)

@@ -12,66 +12,66 @@ use Rattle.plate.proofs.change.read_put.Statement.{statement}
 use Rattle.plate.proofs.change.read_put.Tie as tie
 
 -- where the call starts, and the lengths that it is given
-abbrev start : tie.After-check-put → tie.Start
+abbrev start : tie.After-check_put → tie.Start
 start c = c.before.before
 
 abbrev held : tie.Start → LentLengths
 held s = lent_lengths s.args.planes (length s.args.pixels.now) s.args.log
 
 -- where the check has passed
-abbrev begun : tie.After-new → tie.Start
-begun c = start c.before.before
+abbrev begun : tie.In-ToPut → tie.Start
+begun c = start c.before
 
-passed : (c : tie.After-new) → let s = begun c in
-    (put_check s.args.state s.args.ask (held s) ≡ Accepted) × (asked_pixel s.args.ask ≡ c.new.given.0.0)
-passed c = to_put _ _ _ (sym c.before.before.check-put.ensures ∙ c.new.given.1)
+passed : (c : tie.In-ToPut) → let s = begun c in
+    (put_check s.args.state s.args.ask (held s) ≡ Accepted) × (asked_pixel s.args.ask ≡ c.in-ToPut.given.0.0)
+passed c = to_put _ _ _ (sym c.before.check_put.ensures ∙ c.in-ToPut.is)
 
-plate : (c : tie.After-new) → PlateAccepted (begun c).args.state (held (begun c))
+plate : (c : tie.In-ToPut) → PlateAccepted (begun c).args.state (held (begun c))
 unfolding put_check
 plate c = (plate_accepted _ _ _ (passed c).0).0
 
-asked : (c : tie.After-new) → let a = (begun c).args in AskAccepted a.state.size a.state.count a.log a.ask
+asked : (c : tie.In-ToPut) → let a = (begun c).args in AskAccepted a.state.size a.state.count a.log a.ask
 unfolding put_check
 asked c = ask-accepted _ _ _ _ (plate_accepted _ _ _ (passed c).0).1
 
 -- where the stored word is read
-abbrev checked : tie.After-unpack → tie.After-new
-checked c = c.before.before.before.before
+abbrev checked : tie.After-unpack → tie.In-ToPut
+checked c = c.before.before.before
 
-mul-place : tie.Need-overflow-mul-place
-mul-place c = omega (arith, (asked c.before.before).place_in, (plate c.before.before).lawful.places_top_fact)
+mul-place : tie.Need-overflow_mul-place
+mul-place c = omega (arith, (asked c.before).place_in, (plate c.before).lawful.places_top_fact)
 
-add-place : tie.Need-overflow-add-place
-add-place c = omega (arith, (asked c.before.before).place_in, (plate c.before.before).lawful.places_top_fact)
+add-place : tie.Need-overflow_add-place
+add-place c = omega (arith, (asked c.before).place_in, (plate c.before).lawful.places_top_fact)
 
-mul-unpack : tie.Need-overflow-mul-unpack
-mul-unpack c = omega (arith, (asked c.before.before).place_in, (plate c.before.before).lawful.places_top_fact)
+mul-unpack : tie.Need-offset_bounds-pixels-place
+mul-unpack c = omega (arith, (asked c.before).place_in, (plate c.before).lawful.places_top_fact)
 
-shared-slice-read-unpack : tie.Need-shared-slice-read-unpack
+shared-slice-read-unpack : tie.Need-bounds-pixels-place
 shared-slice-read-unpack c =
-    let told = c.before.before.before in
+    let told = c.before.before in
     omega (arith, (asked told).place_in, (plate told).lent.pixels_are)
 
-returns : tie.Need-returns
+returns : tie.Need-returns-in_default
 unfolding put_read put_read_by put_over
 returns c =
-    let unpacked = c.before.before in
-    rw ((passed (checked unpacked)).0, ← unpacked.unpack.ensures, c.enum_told.given.1)
+    let unpacked = c.before in
+    rw ((passed (checked unpacked)).0, ← unpacked.unpack.ensures, c.in_default.is)
 
-returns-2 : tie.Need-returns-2
+returns-2 : tie.Need-returns-in-Whole
 unfolding put_read put_read_by put_over
 returns-2 c =
-    let old = c.before in
-    let unpacked = old.before.before in
+    let old = c in
+    let unpacked = old.before in
     let told = passed (checked unpacked) in
-    rw (told.0, ← unpacked.unpack.ensures, old.old.given.1, ← told.1)
+    rw (told.0, ← unpacked.unpack.ensures, old.in-Whole.is, ← told.1)
 
-returns-3 : tie.Need-returns-3
+returns-3 : tie.Need-returns-in-NoPut
 unfolding put_read put_read_by
 returns-3 c =
-    let found = c.before in
-    let s = start found.before.before in
-    let refused = sym found.before.before.check-put.ensures ∙ found.why.given.1 in
+    let found = c in
+    let s = start found.before in
+    let refused = sym found.before.check_put.ensures ∙ found.in-NoPut.is in
     rw (no_put (put_check s.args.state s.args.ask (held s)) _ _ refused)
 
 pub read_put_spec : {M : Type 1} → statement M

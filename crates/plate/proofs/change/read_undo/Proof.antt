@@ -15,109 +15,109 @@ use Rattle.plate.proofs.change.read_undo.Statement.{statement}
 use Rattle.plate.proofs.change.read_undo.Tie as tie
 
 -- where the call starts
-abbrev start : tie.After-enum-told → tie.Start
-start c = c.before.before.before.before.before
+abbrev start : tie.In_default → tie.Start
+start c = c.before.before.before.before
 
 abbrev held : tie.Start → LentLengths
 held s = lent_lengths s.args.planes (length s.args.pixels.now) (length s.args.log.now)
 
 -- the check passed
-checked : (c : tie.After-enum-told) → let s = start c in undo_check s.args.state (held s) ≡ Accepted
-checked c = sym c.before.before.check-undo.ensures ∙ c.enum_told.given.1
+checked : (c : tie.In_default) → let s = start c in undo_check s.args.state (held s) ≡ Accepted
+checked c = sym c.before.check_undo-check.ensures ∙ c.in_default.is
 
-plate : (c : tie.After-enum-told) → PlateAccepted (start c).args.state (held (start c))
+plate : (c : tie.In_default) → PlateAccepted (start c).args.state (held (start c))
 unfolding undo_check
 plate c = (plate_accepted _ _ _ (checked c)).0
 
-some : (c : tie.After-enum-told) → 1 ≤ (start c).args.state.count
+some : (c : tie.In_default) → 1 ≤ (start c).args.state.count
 unfolding undo_check
 some c = some_accepted (start c).args.state (plate_accepted _ _ _ (checked c)).1
 
 -- where the last entry is read
-abbrev passed : tie.After-unpack-entry → tie.After-enum-told
+abbrev passed : tie.After-unpack_entry → tie.In_default
 passed c = c.before.before.before
 
 -- the last entry can be read
-logged : (c : tie.After-entry)
-    → let s = start (passed c.before.before) in
-    read_entry s.args.state.size (get_or s.args.log.now (s.args.state.count - 1) 0) ≡ Logged c.entry.given.0.0
-logged c = sym c.before.before.unpack-entry.ensures ∙ c.entry.given.1
+logged : (c : tie.In-Logged)
+    → let s = start (passed c.before) in
+    read_entry s.args.state.size (get_or s.args.log.now (s.args.state.count - 1) 0) ≡ Logged c.in-Logged.given.0.0
+logged c = sym c.before.unpack_entry.ensures ∙ c.in-Logged.is
 
 -- so it holds a place of the plate
-inside : (c : tie.After-entry)
-    → c.entry.given.0.0.place < places (start (passed c.before.before)).args.state.size
+inside : (c : tie.In-Logged)
+    → c.in-Logged.given.0.0.place < places (start (passed c.before)).args.state.size
 inside c = (entry_read _ _ _ (logged c)).0
 
 -- where the stored word is read
-abbrev last : tie.After-unpack → tie.After-entry
-last c = c.before.before.before
+abbrev last : tie.After-unpack → tie.In-Logged
+last c = c.before.before
 
 -- the stored word is a pixel's
-read : (c : tie.After-old)
-    → let entry = last c.before.before in
+read : (c : tie.In-Whole)
+    → let entry = last c.before in
     let a = (start (passed entry.before.before)).args in
-    read_word a.state.size.reach (get_or a.pixels.now entry.entry.given.0.0.place 0) ≡ Whole c.old.given.0.0
-read c = sym c.before.before.unpack.ensures ∙ c.old.given.1
+    read_word a.state.size.reach (get_or a.pixels.now entry.entry.given.0.0.place 0) ≡ Whole c.in-Whole.given.0.0
+read c = sym c.before.unpack.ensures ∙ c.in-Whole.is
 
-returns : tie.Need-returns
+returns : tie.Need-returns-in-Refused
 unfolding undo_read undo_read_by
 returns c =
-    let found = c.before in
-    rw (← found.before.before.check-undo.ensures, found.check.given.1)
+    let found = c in
+    rw (← found.before.check_undo-check.ensures, found.in-Refused.is)
 
-sub-last : tie.Need-overflow-sub-last
+sub-last : tie.Need-overflow_sub-last
 sub-last c = some c.before
 
-mul-word : tie.Need-overflow-mul-word
+mul-word : tie.Need-offset_bounds-log-last
 mul-word c =
     let told = c.before in omega (arith, some told, (plate told).count_in, (plate told).lent.log_top_fact)
 
-shared-slice-read-word : tie.Need-shared-slice-read-word
+shared-slice-read-word : tie.Need-bounds-log-last
 shared-slice-read-word c = let told = c.before.before in omega (arith, some told, (plate told).count_in)
 
-unpack-entry-requires : tie.Need-unpack-entry-requires
+unpack-entry-requires : tie.Need-unpack_entry-requires
 unpack-entry-requires c κs = (plate c.before.before).lawful
 
-returns-2 : tie.Need-returns-2
+returns-2 : tie.Need-returns-in_default-unpack_entry
 unfolding undo_read undo_read_by undo_entry
 returns-2 c =
-    let unpacked = c.before.before in
-    rw (checked (passed unpacked), ← unpacked.unpack-entry.ensures, c.enum-told2.given.1)
+    let unpacked = c.before in
+    rw (checked (passed unpacked), ← unpacked.unpack_entry.ensures, c.in_default-unpack_entry.is)
 
-mul-unpack : tie.Need-overflow-mul-unpack
+mul-unpack : tie.Need-offset_bounds-pixels-place
 mul-unpack c =
-    let entry = c.before in
-    omega (arith, inside entry, (plate (passed entry.before.before)).lawful.places_top_fact)
+    let entry = c in
+    omega (arith, inside entry, (plate (passed entry.before)).lawful.places_top_fact)
 
-shared-slice-read-unpack : tie.Need-shared-slice-read-unpack
+shared-slice-read-unpack : tie.Need-bounds-pixels-place
 shared-slice-read-unpack c =
-    let entry = c.before.before in
-    omega (arith, inside entry, (plate (passed entry.before.before)).lent.pixels_are)
+    let entry = c.before in
+    omega (arith, inside entry, (plate (passed entry.before)).lent.pixels_are)
 
-returns-3 : tie.Need-returns-3
+returns-3 : tie.Need-returns-in_default-unpack
 unfolding undo_read undo_read_by undo_entry undo_over
 returns-3 c =
-    let unpacked = c.before.before in
+    let unpacked = c.before in
     let entry = last unpacked in
     rw (
       checked (passed entry.before.before),
       logged entry,
-      sym unpacked.unpack.ensures ∙ c.enum-told3.given.1,
+      sym unpacked.unpack.ensures ∙ c.in_default-unpack.is,
     )
 
-rem-x : tie.Need-nonzero-rem-x
+rem-x : tie.Need-nonzero_rem-x
 rem-x c =
-    (plate (passed (last c.before.before.before.before).before.before)).lawful.width_some
+    (plate (passed (last c.before.before).before.before)).lawful.width_some
 
-div-y : tie.Need-nonzero-div-y
+div-y : tie.Need-nonzero_div-y
 div-y c =
-    (plate (passed (last c.before.before.before.before).before.before)).lawful.width_some
+    (plate (passed (last c.before.before).before.before)).lawful.width_some
 
-returns-4 : tie.Need-returns-4
+returns-4 : tie.Need-returns
 unfolding undo_read undo_read_by undo_entry undo_over
 returns-4 c =
-    let old = c.before.before in
-    let entry = last old.before.before in
+    let old = c.before in
+    let entry = last old.before in
     rw (checked (passed entry.before.before), logged entry, read old)
 
 pub read_undo_spec : {M : Type 1} → statement M

@@ -5,39 +5,39 @@ use Rattle.plate_model.proofs.Checks.Conditions.{tests}
 use Rattle.plate.proofs.check.check_ask.Statement.{statement}
 use Rattle.plate.proofs.check.check_ask.Tie as tie
 
-returns : tie.Need-returns
+returns : tie.Need-returns-then-width-x
 unfolding ask_check place_check shape_check radius_check refuse_if
 returns c = search tests
 
-returns-2 : tie.Need-returns-2
+returns-2 : tie.Need-returns-then-height-y
 unfolding ask_check place_check shape_check radius_check refuse_if
 returns-2 c = search tests
 
-returns-3 : tie.Need-returns-3
+returns-3 : tie.Need-returns-then-value-gt-VALUE_TOP
 unfolding ask_check place_check shape_check radius_check refuse_if
 returns-3 c = search tests
 
-returns-4 : tie.Need-returns-4
+returns-4 : tie.Need-returns-in_default
 unfolding ask_check place_check shape_check radius_check refuse_if
-returns-4 c = rw c.enum_told.given.1 (search tests)
+returns-4 c = rw c.in_default.is (search tests)
 
-returns-5 : tie.Need-returns-5
+returns-5 : tie.Need-returns-then-top_under-radius
 unfolding ask_check place_check shape_check radius_check refuse_if
 returns-5 c =
     let topped = c.before in
-    rw (topped.before.before.read.given.1, ← topped.top-under.ensures) (search tests)
+    rw (topped.before.in-Known.is, ← topped.top_under.ensures) (search tests)
 
-returns-6 : tie.Need-returns-6
+returns-6 : tie.Need-returns-then-count-log
 unfolding ask_check place_check shape_check radius_check refuse_if
 returns-6 c =
     let topped = c.before.before in
-    rw (topped.before.before.read.given.1, ← topped.top-under.ensures) (search tests)
+    rw (topped.before.in-Known.is, ← topped.top_under.ensures) (search tests)
 
-returns-7 : tie.Need-returns-7
+returns-7 : tie.Need-returns
 unfolding ask_check place_check shape_check radius_check refuse_if
 returns-7 c =
     let topped = c.before.before in
-    rw (topped.before.before.read.given.1, ← topped.top-under.ensures) (search tests)
+    rw (topped.before.in-Known.is, ← topped.top_under.ensures) (search tests)
 
 pub check_ask_spec : {M : Type 1} → statement M
 check_ask_spec =

@@ -10,51 +10,51 @@ use Rattle.plate.proofs.check.check_fill.Statement.{statement}
 use Rattle.plate.proofs.check.check_fill.Tie as tie
 
 -- past the plate's check and the inputs'
-past : (c : tie.After-enum-told3) (next : Outcome)
-    → let told = c.before.before.before in
-    let a = told.before.before.before.before.args in
+past : (c : tie.In-Accepted-inputs) (next : Outcome)
+    → let told = c.before.before in
+    let a = told.before.before.before.args in
     let z = a.state.size in
     sizes_check z (lent_check z a.lent (inputs_check z a.values a.opacities a.depths next)) ≡ next
 past c next =
-    let told = c.before.before.before in
+    let told = c.before.before in
     rw (
       open_before,
-      ← told.before.before.check-open.ensures,
-      told.enum_told.given.1,
-      inputs_before told.before.before.before.before.args.state.size _ _ _ Accepted next,
-      ← c.before.before.check-inputs.ensures,
-      c.enum-told3.given.1,
+      ← told.before.check_open-plate.ensures,
+      told.in-Accepted.is,
+      inputs_before told.before.before.before.args.state.size _ _ _ Accepted next,
+      ← c.before.check_inputs-inputs.ensures,
+      c.in-Accepted-inputs.is,
     )
 
-returns : tie.Need-returns
+returns : tie.Need-returns-in_default
 unfolding fill_lengths
-returns c = rw (open_before, ← c.before.before.check-open.ensures, c.enum-told2.given.1)
+returns c = rw (open_before, ← c.before.check_open-plate.ensures, c.in_default.is)
 
-check-inputs-requires : tie.Need-check-inputs-requires
+check-inputs-requires : tie.Need-check_inputs-inputs-requires
 unfolding open_check
 check-inputs-requires c κs =
-    (sizes_passed _ _ (sym c.before.before.check-open.ensures ∙ c.enum_told.given.1)).0
+    (sizes_passed _ _ (sym c.before.check_open-plate.ensures ∙ c.in-Accepted.is)).0
 
-returns-2 : tie.Need-returns-2
+returns-2 : tie.Need-returns-in_default-inputs
 unfolding fill_lengths
 returns-2 c =
-    let told = c.before.before.before in
+    let told = c.before.before in
     rw (
       open_before,
-      ← told.before.before.check-open.ensures,
-      told.enum_told.given.1,
-      inputs_before told.before.before.before.before.args.state.size _ _ _ Accepted _,
-      ← c.before.before.check-inputs.ensures,
-      c.enum-told4.given.1,
+      ← told.before.check_open-plate.ensures,
+      told.in-Accepted.is,
+      inputs_before told.before.before.before.args.state.size _ _ _ Accepted _,
+      ← c.before.check_inputs-inputs.ensures,
+      c.in_default-inputs.is,
     )
 
-returns-3 : tie.Need-returns-3
+returns-3 : tie.Need-returns-then-log-count
 unfolding fill_lengths refuse_if
-returns-3 c = rw (past c.before _, lt-ltb _ _ c.if1.true)
+returns-3 c = rw (past c.before _, lt-ltb _ _ c.if-log-count.true)
 
-returns-4 : tie.Need-returns-4
+returns-4 : tie.Need-returns
 unfolding fill_lengths refuse_if
-returns-4 c = rw (past c.before _, le-ltb _ _ c.if1.false)
+returns-4 c = rw (past c.before _, le-ltb _ _ c.if-log-count.false)
 
 pub check_fill_spec : {M : Type 1} → statement M
 check_fill_spec =

@@ -5,22 +5,22 @@ use Rattle.plate_model.proofs.Checks.Conditions.{tests}
 use Rattle.plate.proofs.check.check_inputs.Statement.{statement}
 use Rattle.plate.proofs.check.check_inputs.Tie as tie
 
-mul-places : tie.Need-overflow-mul-places
+mul-places : tie.Need-overflow_mul-places
 mul-places c = omega (arith, c.requires.places_top_fact)
 
-returns : tie.Need-returns
+returns : tie.Need-returns-then-values-places
 unfolding inputs_check refuse_if
 returns c = search tests
 
-returns-2 : tie.Need-returns-2
+returns-2 : tie.Need-returns-then-opacities-places
 unfolding inputs_check refuse_if
 returns-2 c = search tests
 
-returns-3 : tie.Need-returns-3
+returns-3 : tie.Need-returns-then-depths-places
 unfolding inputs_check refuse_if
 returns-3 c = search tests
 
-returns-4 : tie.Need-returns-4
+returns-4 : tie.Need-returns
 unfolding inputs_check refuse_if
 returns-4 c = search tests
 

@@ -10,48 +10,48 @@ use Rattle.plate.proofs.Laws.Checks.Chains.{sizes_before}
 use Rattle.plate.proofs.check.check_kept.Statement.{statement}
 use Rattle.plate.proofs.check.check_kept.Tie as tie
 
-abbrev start : tie.After-enum-told → tie.Start
-start c = c.before.before.before
+abbrev start : tie.In-Accepted → tie.Start
+start c = c.before.before
 
 -- past the sizes' check they are lawful
-lawful : (c : tie.After-enum-told) → LawfulSize (start c).args.size
-lawful c = (sizes_passed _ Accepted (sym c.before.before.check-sizes.ensures ∙ c.enum_told.given.1)).0
+lawful : (c : tie.In-Accepted) → LawfulSize (start c).args.size
+lawful c = (sizes_passed _ Accepted (sym c.before.check_sizes-sizes.ensures ∙ c.in-Accepted.is)).0
 
-returns : tie.Need-returns
+returns : tie.Need-returns-in_default
 unfolding kept_check
 returns c =
-    let sizes = c.before.before in
-    rw (sizes_before sizes.before.args.size Accepted _, ← sizes.check-sizes.ensures, c.enum-told2.given.1)
+    let sizes = c.before in
+    rw (sizes_before sizes.before.args.size Accepted _, ← sizes.check_sizes-sizes.ensures, c.in_default.is)
 
-mul-places : tie.Need-overflow-mul-places
+mul-places : tie.Need-overflow_mul-places
 mul-places c =
     let law = lawful c.before in
     omega (arith, places_small _ _ law.width_top law.height_top)
 
-mul-if1 : tie.Need-overflow-mul-if1
+mul-if1 : tie.Need-overflow_mul-places-2
 mul-if1 c =
     let law = lawful c.before in
     omega (arith, places_small _ _ law.width_top law.height_top)
 
-returns-2 : tie.Need-returns-2
+returns-2 : tie.Need-returns-then-sums-places
 unfolding kept_check canvas_check refuse_if
 returns-2 c =
     let told = c.before.before in
     rw (sizes_pass (start told).args.size _ (lawful told)) (search tests)
 
-returns-3 : tie.Need-returns-3
+returns-3 : tie.Need-returns-then-values-places
 unfolding kept_check canvas_check refuse_if
 returns-3 c =
     let told = c.before.before.before in
     rw (sizes_pass (start told).args.size _ (lawful told)) (search tests)
 
-returns-4 : tie.Need-returns-4
+returns-4 : tie.Need-returns-then-mattes-places
 unfolding kept_check canvas_check refuse_if
 returns-4 c =
     let told = c.before.before.before.before in
     rw (sizes_pass (start told).args.size _ (lawful told)) (search tests)
 
-returns-5 : tie.Need-returns-5
+returns-5 : tie.Need-returns
 unfolding kept_check canvas_check refuse_if
 returns-5 c =
     let told = c.before.before.before.before in

@@ -9,32 +9,32 @@ use Rattle.plate.proofs.check.check_lent.Statement.{statement}
 use Rattle.plate.proofs.check.check_lent.Tie as tie
 
 -- the frame's cells are the plate's
-cells : (c : tie.After-frame-of) → c.frame-of.result.padded ≡ padded c.before.args.size
-cells c = ap (λ (f : Frame). f.padded) c.frame-of.ensures
+cells : (c : tie.After-frame_of-frame) → c.frame_of-frame.result.padded ≡ padded c.before.args.size
+cells c = ap (λ (f : Frame). f.padded) c.frame_of-frame.ensures
 
-all : (c : tie.After-frame-of) → c.frame-of.result.places ≡ places c.before.args.size
-all c = ap (λ (f : Frame). f.places) c.frame-of.ensures
+all : (c : tie.After-frame_of-frame) → c.frame_of-frame.result.places ≡ places c.before.args.size
+all c = ap (λ (f : Frame). f.places) c.frame_of-frame.ensures
 
-mul-if1 : tie.Need-overflow-mul-if1
+mul-if1 : tie.Need-overflow_mul-cells
 mul-if1 c =
     let framed = c in
     omega (arith, cells framed, padded_small framed.before.args.size framed.before.requires)
 
-returns : tie.Need-returns
+returns : tie.Need-returns-then-planes-cells
 unfolding lent_check refuse_if
 returns c = let framed = c.before in rw (← cells framed, ← all framed) (search tests)
 
-returns-2 : tie.Need-returns-2
+returns-2 : tie.Need-returns-then-pixels-places
 unfolding lent_check refuse_if
 returns-2 c =
     let framed = c.before.before in rw (← cells framed, ← all framed) (search tests)
 
-returns-3 : tie.Need-returns-3
+returns-3 : tie.Need-returns-then-log-gt-LOG_TOP
 unfolding lent_check refuse_if
 returns-3 c =
     let framed = c.before.before.before in rw (← cells framed, ← all framed) (search tests)
 
-returns-4 : tie.Need-returns-4
+returns-4 : tie.Need-returns
 unfolding lent_check refuse_if
 returns-4 c =
     let framed = c.before.before.before in rw (← cells framed, ← all framed) (search tests)

@@ -7,26 +7,26 @@ use Rattle.plate.proofs.Laws.Checks.Chains.{sizes_before}
 use Rattle.plate.proofs.check.check_open.Statement.{statement}
 use Rattle.plate.proofs.check.check_open.Tie as tie
 
-returns : tie.Need-returns
+returns : tie.Need-returns-in_default
 unfolding open_check
 returns c =
-    let sizes = c.before.before in
-    rw (sizes_before sizes.before.args.size Accepted _, ← sizes.check-sizes.ensures, c.enum-told2.given.1)
+    let sizes = c.before in
+    rw (sizes_before sizes.before.args.size Accepted _, ← sizes.check_sizes-sizes.ensures, c.in_default.is)
 
-check-lent-requires : tie.Need-check-lent-requires
+check-lent-requires : tie.Need-check_lent-requires
 check-lent-requires c κs =
-    (sizes_passed _ Accepted (sym c.before.before.check-sizes.ensures ∙ c.enum_told.given.1)).0
+    (sizes_passed _ Accepted (sym c.before.check_sizes-sizes.ensures ∙ c.in-Accepted.is)).0
 
-returns-2 : tie.Need-returns-2
+returns-2 : tie.Need-returns
 unfolding open_check
 returns-2 c =
-    let sizes = c.before.before.before in
+    let sizes = c.before.before in
     rw (
       sizes_before sizes.before.args.size Accepted _,
-      ← sizes.check-sizes.ensures,
-      c.before.enum_told.given.1,
+      ← sizes.check_sizes-sizes.ensures,
+      c.before.in-Accepted.is,
     )
-    c.check-lent.ensures
+    c.check_lent.ensures
 
 pub check_open_spec : {M : Type 1} → statement M
 check_open_spec =

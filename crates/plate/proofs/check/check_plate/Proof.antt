@@ -6,21 +6,21 @@ use Rattle.plate_model.proofs.Checks.Conditions.{tests}
 use Rattle.plate.proofs.check.check_plate.Statement.{statement}
 use Rattle.plate.proofs.check.check_plate.Tie as tie
 
-returns : tie.Need-returns
+returns : tie.Need-returns-in_default
 unfolding plate_check
-returns c = rw (open_before, ← c.before.before.check-open.ensures, c.enum-told2.given.1)
+returns c = rw (open_before, ← c.before.check_open-plate.ensures, c.in_default.is)
 
-returns-2 : tie.Need-returns-2
+returns-2 : tie.Need-returns-then-log-count
 unfolding plate_check refuse_if
 returns-2 c =
     let told = c.before in
-    rw (open_before, ← told.before.before.check-open.ensures, told.enum_told.given.1) (search tests)
+    rw (open_before, ← told.before.check_open-plate.ensures, told.in-Accepted.is) (search tests)
 
-returns-3 : tie.Need-returns-3
+returns-3 : tie.Need-returns
 unfolding plate_check refuse_if
 returns-3 c =
     let told = c.before in
-    rw (open_before, ← told.before.before.check-open.ensures, told.enum_told.given.1) (search tests)
+    rw (open_before, ← told.before.check_open-plate.ensures, told.in-Accepted.is) (search tests)
 
 pub check_plate_spec : {M : Type 1} → statement M
 check_plate_spec =

@@ -5,15 +5,15 @@ use Rattle.plate.proofs.Laws.Checks.Chains.{plate_before}
 use Rattle.plate.proofs.check.check_put.Statement.{statement}
 use Rattle.plate.proofs.check.check_put.Tie as tie
 
-returns : tie.Need-returns
+returns : tie.Need-returns-in-Refused
 unfolding put_check
-returns c = rw (plate_before, ← c.before.before.before.check-plate.ensures, c.before.plate.given.1)
+returns c = rw (plate_before, ← c.before.check_plate-plate.ensures, c.in-Refused.is)
 
-returns-2 : tie.Need-returns-2
+returns-2 : tie.Need-returns
 unfolding put_check
 returns-2 c =
     let told = c.before in
-    rw (plate_before, ← told.before.before.check-plate.ensures, told.enum_told.given.1) c.check-ask.ensures
+    rw (plate_before, ← told.before.check_plate-plate.ensures, told.in_default.is) c.check_ask.ensures
 
 pub check_put_spec : {M : Type 1} → statement M
 check_put_spec =

@@ -8,46 +8,46 @@ use Rattle.plate.proofs.Laws.Checks.Chains.{total_before}
 use Rattle.plate.proofs.check.check_show.Statement.{statement}
 use Rattle.plate.proofs.check.check_show.Tie as tie
 
-abbrev start : tie.After-check-total → tie.Start
+abbrev start : tie.After-check_total-summed → tie.Start
 start c = c.before.before
 
 -- the first check passed
-passed : (c : tie.After-enum-told)
-    → let a = (start c.before.before).args in total_check a.state.size a.planes a.scratch ≡ Accepted
-passed c = sym c.before.before.check-total.ensures ∙ c.enum_told.given.1
+passed : (c : tie.In-Accepted)
+    → let a = (start c.before).args in total_check a.state.size a.planes a.scratch ≡ Accepted
+passed c = sym c.before.check_total-summed.ensures ∙ c.in-Accepted.is
 
-returns : tie.Need-returns
+returns : tie.Need-returns-in_default
 unfolding show_check views_check
 returns c =
-    let summed = c.before.before in
+    let summed = c.before in
     let a = (start summed).args in
-    rw (total_before a.state.size a.planes a.scratch _, ← summed.check-total.ensures, c.enum-told2.given.1)
+    rw (total_before a.state.size a.planes a.scratch _, ← summed.check_total-summed.ensures, c.in_default.is)
 
-mul-places : tie.Need-overflow-mul-places
+mul-places : tie.Need-overflow_mul-places
 unfolding total_check
 mul-places c =
     let told = c.before in
     omega (arith, (sizes_passed _ _ (passed told)).0.places_top_fact)
 
-returns-2 : tie.Need-returns-2
+returns-2 : tie.Need-returns-then-values-places
 unfolding show_check views_check refuse_if
 returns-2 c =
     let told = c.before.before in
-    let a = (start told.before.before).args in
+    let a = (start told.before).args in
     rw (total_before a.state.size a.planes a.scratch _, passed told) (search tests)
 
-returns-3 : tie.Need-returns-3
+returns-3 : tie.Need-returns-then-mattes-places
 unfolding show_check views_check refuse_if
 returns-3 c =
     let told = c.before.before.before in
-    let a = (start told.before.before).args in
+    let a = (start told.before).args in
     rw (total_before a.state.size a.planes a.scratch _, passed told) (search tests)
 
-returns-4 : tie.Need-returns-4
+returns-4 : tie.Need-returns
 unfolding show_check views_check refuse_if
 returns-4 c =
     let told = c.before.before.before in
-    let a = (start told.before.before).args in
+    let a = (start told.before).args in
     rw (total_before a.state.size a.planes a.scratch _, passed told) (search tests)
 
 pub check_show_spec : {M : Type 1} → statement M

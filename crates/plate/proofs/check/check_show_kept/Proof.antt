@@ -10,45 +10,45 @@ use Rattle.plate.proofs.Laws.Checks.Chains.{sizes_before}
 use Rattle.plate.proofs.check.check_show_kept.Statement.{statement}
 use Rattle.plate.proofs.check.check_show_kept.Tie as tie
 
-abbrev start : tie.After-enum-told → tie.Start
-start c = c.before.before.before.before
+abbrev start : tie.In-Accepted → tie.Start
+start c = c.before.before.before
 
 -- past the sizes' check they are lawful
-lawful : (c : tie.After-enum-told) → LawfulSize (start c).args.state.size
-lawful c = (sizes_passed _ Accepted (sym c.before.before.check-sizes.ensures ∙ c.enum_told.given.1)).0
+lawful : (c : tie.In-Accepted) → LawfulSize (start c).args.state.size
+lawful c = (sizes_passed _ Accepted (sym c.before.check_sizes-sizes.ensures ∙ c.in-Accepted.is)).0
 
-returns : tie.Need-returns
+returns : tie.Need-returns-in_default
 unfolding show_kept_check
 returns c =
-    let sizes = c.before.before in
+    let sizes = c.before in
     rw (
       sizes_before sizes.before.before.args.state.size Accepted _,
-      ← sizes.check-sizes.ensures,
-      c.enum-told2.given.1,
+      ← sizes.check_sizes-sizes.ensures,
+      c.in_default.is,
     )
 
-mul-places : tie.Need-overflow-mul-places
+mul-places : tie.Need-overflow_mul-places
 mul-places c =
     let law = lawful c.before in
     omega (arith, places_small _ _ law.width_top law.height_top)
 
-mul-if1 : tie.Need-overflow-mul-if1
+mul-if1 : tie.Need-overflow_mul-places-2
 mul-if1 c =
     let law = lawful c.before in
     omega (arith, places_small _ _ law.width_top law.height_top)
 
-returns-2 : tie.Need-returns-2
+returns-2 : tie.Need-returns-then-sums-places
 unfolding show_kept_check refuse_if
 returns-2 c =
     let told = c.before.before in
     rw (sizes_pass (start told).args.state.size _ (lawful told)) (search tests)
 
-returns-3 : tie.Need-returns-3
+returns-3 : tie.Need-returns
 unfolding show_kept_check
 returns-3 c =
     let told = c.before.before.before in
-    rw (sizes_pass (start told).args.state.size _ (lawful told), length_pass _ _ _ c.before.if1.false)
-    c.check-show.ensures
+    rw (sizes_pass (start told).args.state.size _ (lawful told), length_pass _ _ _ c.before.if-sums-places.false)
+    c.check_show.ensures
 
 pub check_show_kept_spec : {M : Type 1} → statement M
 check_show_kept_spec =

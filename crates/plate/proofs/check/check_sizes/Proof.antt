@@ -6,36 +6,36 @@ use Rattle.plate_model.proofs.Numbers.Extents.{places_small}
 use Rattle.plate.proofs.check.check_sizes.Statement.{statement}
 use Rattle.plate.proofs.check.check_sizes.Tie as tie
 
-returns : tie.Need-returns
+returns : tie.Need-returns-then-width-lt1
 unfolding sizes_check refuse_if
 returns c = search tests
 
-returns-2 : tie.Need-returns-2
+returns-2 : tie.Need-returns-then-width-gt-SIDE_TOP
 unfolding sizes_check refuse_if
 returns-2 c = search tests
 
-returns-3 : tie.Need-returns-3
+returns-3 : tie.Need-returns-then-height-lt1
 unfolding sizes_check refuse_if
 returns-3 c = search tests
 
-returns-4 : tie.Need-returns-4
+returns-4 : tie.Need-returns-then-height-gt-SIDE_TOP
 unfolding sizes_check refuse_if
 returns-4 c = search tests
 
-mul-if5 : tie.Need-overflow-mul-if5
+mul-if5 : tie.Need-overflow_mul-width
 mul-if5 c =
     let z = c.before.before.before.before.args.size in
     omega (arith, places_small z.width z.height (omega arith) (omega arith))
 
-returns-5 : tie.Need-returns-5
+returns-5 : tie.Need-returns-then-width-height-gt-PLACES_TOP
 unfolding sizes_check refuse_if
 returns-5 c = search tests
 
-returns-6 : tie.Need-returns-6
+returns-6 : tie.Need-returns-then-reach-gt-REACH_TOP
 unfolding sizes_check refuse_if
 returns-6 c = search tests
 
-returns-7 : tie.Need-returns-7
+returns-7 : tie.Need-returns
 unfolding sizes_check refuse_if
 returns-7 c = search tests
 

@@ -13,41 +13,41 @@ use Rattle.plate.proofs.check.check_total.Statement.{statement}
 use Rattle.plate.proofs.check.check_total.Tie as tie
 
 -- the sizes passed
-lawful : (c : tie.After-enum-told) → LawfulSize c.before.before.before.args.size
-lawful c = (sizes_passed _ Accepted (sym c.before.before.check-sizes.ensures ∙ c.enum_told.given.1)).0
+lawful : (c : tie.In-Accepted) → LawfulSize c.before.before.args.size
+lawful c = (sizes_passed _ Accepted (sym c.before.check_sizes-sizes.ensures ∙ c.in-Accepted.is)).0
 
-abbrev start : tie.After-frame-of → tie.Start
-start c = c.before.before.before.before
+abbrev start : tie.After-frame_of-frame → tie.Start
+start c = c.before.before.before
 
 -- the frame's cells are the plate's
-cells : (c : tie.After-frame-of) → c.frame-of.result.padded ≡ padded (start c).args.size
-cells c = ap (λ (f : Frame). f.padded) c.frame-of.ensures
+cells : (c : tie.After-frame_of-frame) → c.frame_of-frame.result.padded ≡ padded (start c).args.size
+cells c = ap (λ (f : Frame). f.padded) c.frame_of-frame.ensures
 
-returns : tie.Need-returns
+returns : tie.Need-returns-in_default
 unfolding total_check
 returns c =
-    let sizes = c.before.before in
-    rw (sizes_before sizes.before.args.size Accepted _, ← sizes.check-sizes.ensures, c.enum-told2.given.1)
+    let sizes = c.before in
+    rw (sizes_before sizes.before.args.size Accepted _, ← sizes.check_sizes-sizes.ensures, c.in_default.is)
 
-frame-of-requires : tie.Need-frame-of-requires
+frame-of-requires : tie.Need-frame_of-frame-requires
 frame-of-requires c κs = lawful c
 
-mul-if1 : tie.Need-overflow-mul-if1
+mul-if1 : tie.Need-overflow_mul-cells
 mul-if1 c = omega (arith, cells c, padded_small (start c).args.size (lawful c.before))
 
-returns-2 : tie.Need-returns-2
+returns-2 : tie.Need-returns-then-planes-cells
 unfolding total_check refuse_if
 returns-2 c =
     let framed = c.before in
     rw (sizes_pass (start framed).args.size _ (lawful framed.before), ← cells framed) (search tests)
 
-returns-3 : tie.Need-returns-3
+returns-3 : tie.Need-returns-then-scratch-cells
 unfolding total_check refuse_if
 returns-3 c =
     let framed = c.before.before in
     rw (sizes_pass (start framed).args.size _ (lawful framed.before), ← cells framed) (search tests)
 
-returns-4 : tie.Need-returns-4
+returns-4 : tie.Need-returns
 unfolding total_check refuse_if
 returns-4 c =
     let framed = c.before.before in

@@ -6,21 +6,21 @@ use Rattle.plate_model.proofs.Checks.Conditions.{tests}
 use Rattle.plate.proofs.check.check_undo.Statement.{statement}
 use Rattle.plate.proofs.check.check_undo.Tie as tie
 
-returns : tie.Need-returns
+returns : tie.Need-returns-in_default
 unfolding undo_check
-returns c = rw (plate_before, ← c.before.before.check-plate.ensures, c.enum-told2.given.1)
+returns c = rw (plate_before, ← c.before.check_plate-plate.ensures, c.in_default.is)
 
-returns-2 : tie.Need-returns-2
+returns-2 : tie.Need-returns-then-count-eq0
 unfolding undo_check refuse_if
 returns-2 c =
     let told = c.before in
-    rw (plate_before, ← told.before.before.check-plate.ensures, told.enum_told.given.1) (search tests)
+    rw (plate_before, ← told.before.check_plate-plate.ensures, told.in-Accepted.is) (search tests)
 
-returns-3 : tie.Need-returns-3
+returns-3 : tie.Need-returns
 unfolding undo_check refuse_if
 returns-3 c =
     let told = c.before in
-    rw (plate_before, ← told.before.before.check-plate.ensures, told.enum_told.given.1) (search tests)
+    rw (plate_before, ← told.before.check_plate-plate.ensures, told.in-Accepted.is) (search tests)
 
 pub check_undo_spec : {M : Type 1} → statement M
 check_undo_spec =

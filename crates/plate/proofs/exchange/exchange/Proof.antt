@@ -5,34 +5,34 @@ use Rattle.plate.proofs.exchange.exchange.Statement.{statement}
 use Rattle.plate.proofs.exchange.exchange.Tie as tie
 
 -- where the call starts
-abbrev start : tie.After-exchange-marks → tie.Start
+abbrev start : tie.After-exchange_marks → tie.Start
 start c = c.before.before.before.before
 
 -- what has become of the planes
-abbrev moved : tie.After-pack → tie.After-exchange-marks
+abbrev moved : tie.After-pack → tie.After-exchange_marks
 moved c = c.before.before.before.before.before
 
-exchange-marks-requires : tie.Need-exchange-marks-requires
+exchange-marks-requires : tie.Need-exchange_marks-requires
 exchange-marks-requires c κs = c.before.before.before.requires.0
 
 pack-requires : tie.Need-pack-requires
 pack-requires c κs = (start c.before.before.before.before).requires.0.change.new_fits.value_fits
 
-mul-pixels : tie.Need-overflow-mul-pixels
-mul-pixels c = let s = start (moved c) in omega (arith, s.pre.1, s.good)
+mul-pixels : tie.Need-offset_bounds-pixels-place
+mul-pixels c = let s = start (moved c) in omega (arith, s.requires.1, s.well_formed)
 
-slice-write-pixels : tie.Need-slice-write-pixels
+slice-write-pixels : tie.Need-bounds-pixels-place
 slice-write-pixels c = (start (moved c)).requires.1
 
-add-result : tie.Need-overflow-add-result
+add-result : tie.Need-overflow_add-result
 add-result c =
     let change = (start (moved c.before.before)).args.change in
     omega (
       arith,
       count_few change.old.shape,
       count_few change.new.shape,
-      c.before.mark-count.ensures,
-      c.mark-count2.ensures,
+      c.before.mark_count-gone.ensures,
+      c.mark_count-come.ensures,
     )
 
 returns : tie.Need-returns
@@ -40,9 +40,9 @@ returns c =
     let old = c.before in
     let packed = old.before in
     record {
-      marks-are = omega (arith, old.mark-count.ensures, c.mark-count2.ensures);
-      planes-are = (moved packed).exchange-marks.ensures;
-      pixels-are = rw packed.pack.ensures;
+      marks_are = omega (arith, old.mark_count-gone.ensures, c.mark_count-come.ensures);
+      planes_are = (moved packed).exchange-marks.ensures;
+      pixels_are = rw packed.pack.ensures;
     }
 
 pub exchange_spec : {M : Type 1} → statement M

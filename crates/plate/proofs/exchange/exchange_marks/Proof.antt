@@ -7,48 +7,48 @@ use Rattle.plate.proofs.exchange.exchange_marks.Statement.{statement}
 use Rattle.plate.proofs.exchange.exchange_marks.Tie as tie
 
 -- the place of the change
-placed : (c : tie.After-frame-of) → let a = c.before.before.args in
-    Placed c.frame-of.result a.change.x a.change.y
+placed : (c : tie.After-frame_of-frame) → let a = c.before.before.args in
+    Placed c.frame_of-frame.result a.change.x a.change.y
 placed c =
     let s = c.before.before in
-    rw c.frame-of.ensures (record { framed = refl; column-in = s.requires.change.column_in; row_in = s.requires.change.row_in })
+    rw c.frame_of-frame.ensures (record { framed = refl; column_in = s.requires.change.column_in; row_in = s.requires.change.row_in })
 
-frame-of-requires : tie.Need-frame-of-requires
+frame-of-requires : tie.Need-frame_of-frame-requires
 frame-of-requires c κs = c.before.requires.change.lawful
 
 -- what holds of either pixel is at hand for both calls: which of them a call is to have, only what is laid decides
-take-pixel-requires : tie.Need-take-pixel-requires
+take-pixel-requires : tie.Need-take_pixel-requires
 take-pixel-requires c κs =
     let new-share = c.before in
     let old-share = new-share.before in
     let framed = old-share.before.before.before in
     let s = framed.before.before in
-    let old-fits = s.requires.change.old_fits.radius_fits in
-    let new-fits = s.requires.change.new_fits.radius_fits in
-    let old-is = old-share.share-of.ensures in
-    let New-is = new-share.share-of2.ensures in
+    let old_fits = s.requires.change.old_fits.radius_fits in
+    let new_fits = s.requires.change.new_fits.radius_fits in
+    let old_is = old-share.share_of-old_share.ensures in
+    let New-is = new-share.share_of-new_share.ensures in
     record {
       placed = placed framed;
-      planes-are = rw framed.frame-of.ensures s.requires.planes_are;
-      radius-fits = rw framed.frame-of.ensures (search rules);
-      share-is = search rules;
+      planes_are = rw framed.frame_of-frame.ensures s.requires.planes_are;
+      radius_fits = rw framed.frame_of-frame.ensures (search rules);
+      share_is = search rules;
     }
 
-lay-pixel-requires : tie.Need-lay-pixel-requires
+lay-pixel-requires : tie.Need-lay_pixel-requires
 lay-pixel-requires c κs =
     let new-share = c.before.before.before.before.before in
     let old-share = new-share.before in
     let framed = old-share.before.before.before in
     let s = framed.before.before in
-    let old-fits = s.requires.change.old_fits.radius_fits in
-    let new-fits = s.requires.change.new_fits.radius_fits in
-    let old-is = old-share.share-of.ensures in
-    let New-is = new-share.share-of2.ensures in
+    let old_fits = s.requires.change.old_fits.radius_fits in
+    let new_fits = s.requires.change.new_fits.radius_fits in
+    let old_is = old-share.share_of-old_share.ensures in
+    let New-is = new-share.share_of-new_share.ensures in
     record {
       placed = placed framed;
-      planes-are = rw framed.frame-of.ensures (search rules ∙ s.requires.planes_are);
-      radius-fits = rw framed.frame-of.ensures (search rules);
-      share-is = search rules;
+      planes_are = rw framed.frame_of-frame.ensures (search rules ∙ s.requires.planes_are);
+      radius_fits = rw framed.frame_of-frame.ensures (search rules);
+      share_is = search rules;
     }
 
 returns : tie.Need-returns
@@ -58,7 +58,7 @@ returns c =
     let taken = laid.before.before.before.before in
     let framed = taken.before.before.before.before.before.before in
     let s = framed.before.before in
-    rw (laid.lay-pixel.ensures, taken.take-pixel.ensures, framed.frame-of.ensures, s.requires.change.place_is)
+    rw (laid.lay_pixel.ensures, taken.take_pixel.ensures, framed.frame_of-frame.ensures, s.requires.change.place_is)
 
 pub exchange_marks_spec : {M : Type 1} → statement M
 exchange_marks_spec =

@@ -7,7 +7,7 @@ use Rattle.plate.proofs.fill.fill.Statement.{statement}
 use Rattle.plate.proofs.fill.fill.Tie as tie
 
 -- where the call starts, and what it is given and lent
-abbrev entry : tie.After-read-layer → tie.Start
+abbrev entry : tie.After-read_layer → tie.Start
 entry c = c.before.before.before.before.before.before.before
 
 abbrev given : tie.Start → Inputs
@@ -17,30 +17,30 @@ abbrev held : tie.Start → Lent
 held c = lent c.args.planes.now c.args.pixels.now c.args.log.now
 
 -- what was read
-reads : (c : tie.After-read-layer)
+reads : (c : tie.After-read_layer)
     → let s = entry c in
-    c.read-layer.result ≡ layer_read s.args.state s.args.lens s.args.shape (given s) (lengths_of (held s))
-reads c = c.read-layer.ensures (entry c).args.opacities.now refl
+    c.read_layer.result ≡ layer_read s.args.state s.args.lens s.args.shape (given s) (lengths_of (held s))
+reads c = c.read_layer.ensures (entry c).args.opacities.now refl
 
 refill-requires : tie.Need-refill-requires
 refill-requires c κs =
-    let found = c.before.before.before.before in
-    let read = found.before.before in
-    layer_ready _ _ _ _ (held (entry read)) _ (sym found.layer.given.1 ∙ reads read)
+    let found = c.before.before.before in
+    let read = found.before in
+    layer_ready _ _ _ _ (held (entry read)) _ (sym found.in-ToFill.is ∙ reads read)
 
-returns : tie.Need-returns
+returns : tie.Need-returns-in-ToFill
 returns c =
     let made = c.before.before.before.before.before.before in
-    let found = made.before.before.before.before.before in
-    let read = found.before.before in
+    let found = made.before.before.before.before in
+    let read = found.before in
     rw made.refill.ensures.0
-    (layer-filled _ _ _ _ (held (entry read)) _ (sym found.layer.given.1 ∙ reads read) _ _ _ made.refill.ensures.1)
+    (layer-filled _ _ _ _ (held (entry read)) _ (sym found.in-ToFill.is ∙ reads read) _ _ _ made.refill.ensures.1)
 
-returns-2 : tie.Need-returns-2
+returns-2 : tie.Need-returns-in-NoFill
 returns-2 c =
-    let found = c.before.before in
-    let read = found.before.before in
-    rw c.refused.ensures (layer-refused _ _ _ _ (held (entry read)) _ (sym found.why.given.1 ∙ reads read))
+    let found = c.before in
+    let read = found.before in
+    rw c.refused.ensures (layer-refused _ _ _ _ (held (entry read)) _ (sym found.in-NoFill.is ∙ reads read))
 
 pub fill_spec : {M : Type 1} → statement M
 fill_spec =

@@ -13,8 +13,8 @@ use Rattle.plate.proofs.kept.put_kept.Statement.{statement}
 use Rattle.plate.proofs.kept.put_kept.Tie as tie
 
 -- where the call starts, and what it is lent
-abbrev start : tie.After-read-put → tie.Start
-start c = c.before.before.before.before.before.before.before.before.before.before.before.before.before
+abbrev start : tie.After-read_put → tie.Start
+start c = c.before.before.before.before.before.before.before.before.before.before.before.before
 
 abbrev held : tie.Start → Lent
 held s = lent s.args.planes.now s.args.pixels.now s.args.log.now
@@ -26,58 +26,58 @@ abbrev asked : tie.Start → Ask
 asked s = let a = s.args in ask a.x a.y a.value a.opacity a.shape a.radius
 
 -- sums and pictures passed the check
-checked : (c : tie.After-read-put) → let s = start c in canvas_first s.args.state.size (kept s) ≡ Accepted
-checked c = let told = c.before.before.before in sym told.before.before.check-kept.ensures ∙ told.enum_told.given.1
+checked : (c : tie.After-read_put) → let s = start c in canvas_first s.args.state.size (kept s) ≡ Accepted
+checked c = let told = c.before.before in sym told.before.before.check-kept.ensures ∙ told.enum_told.given.1
 
 -- the change that was read
-reads : (c : tie.After-change)
-    → let s = start c.before.before in
-    put_read s.args.state (asked s) (lengths_of (held s)) (held s).pixels ≡ ToChange c.change.given.0.0
+reads : (c : tie.In-ToChange)
+    → let s = start c.before in
+    put_read s.args.state (asked s) (lengths_of (held s)) (held s).pixels ≡ ToChange c.in-ToChange.given.0.0
 reads c =
-    let read = c.before.before in
-    rw (← read.before.before.asked.ensures) (sym read.read-put.ensures ∙ c.change.given.1)
+    let read = c.before in
+    rw (← read.before.before.asked.ensures) (sym read.read_put.ensures ∙ c.in-ToChange.is)
 
-returns : tie.Need-returns
+returns : tie.Need-returns-in-Refused
 unfolding put_kept_call put_kept_by kept_read canvas_by put_by
 returns c =
-    let found = c.before.before in
-    rw (c.refused.ensures, ← found.before.before.check-kept.ensures, found.checked.given.1)
+    let found = c.before in
+    rw (c.refused.ensures, ← found.before.check_kept-checked.ensures, found.in-Refused.is)
 
 mend-requires : tie.Need-mend-requires
 mend-requires c κs =
-    let change = c.before.before.before.before in
-    let s = start change.before.before in
+    let change = c.before.before.before in
+    let s = start change.before in
     mend_ready _ _ _ (kept s)
-    (put_ready s.args.state (asked s) (held s) (omega (arith, s.good)) _ (reads change)).changeable
-    (checked change.before.before)
+    (put_ready s.args.state (asked s) (held s) (omega (arith, s.well_formed)) _ (reads change)).changeable
+    (checked change.before)
 
-log-and-exchange-requires : tie.Need-log-and-exchange-requires
+log-and-exchange-requires : tie.Need-log_and_exchange-requires
 log-and-exchange-requires c κs =
     let mended = c.before.before.before.before.before.before.before in
-    let change = mended.before.before.before.before.before.before.before in
-    let s = start change.before.before in
-    put_ready s.args.state (asked s) (held s) (omega (arith, s.good)) _ (reads change)
+    let change = mended.before.before.before.before.before.before in
+    let s = start change.before in
+    put_ready s.args.state (asked s) (held s) (omega (arith, s.well_formed)) _ (reads change)
 
-returns-2 : tie.Need-returns-2
+returns-2 : tie.Need-returns-in-ToChange
 unfolding put_kept_call put_kept_by kept_read canvas_by
 returns-2 c =
     let made = c.before.before.before.before.before.before in
     let mended = made.before.before.before.before.before.before.before.before.before.before in
-    let change = mended.before.before.before.before.before in
-    rw (checked change.before.before, reads change)
-    (λ j. record { call = made.log-and-exchange.ensures j; canvas = mended.mend.ensures j })
+    let change = mended.before.before.before.before in
+    rw (checked change.before, reads change)
+    (λ j. record { call = made.log_and_exchange.ensures j; canvas = mended.mend.ensures j })
 
-returns-3 : tie.Need-returns-3
+returns-3 : tie.Need-returns-in-NoChange
 unfolding put_kept_call put_kept_by kept_read canvas_by put_by
 returns-3 c =
-    let told = c.before.before in
-    let read = told.before.before in
+    let told = c.before in
+    let read = told.before in
     rw (
-      c.refused2.ensures,
+      c.refused-in-NoChange.ensures,
       checked read,
       ← read.before.before.asked.ensures,
-      ← read.read-put.ensures,
-      told.why.given.1,
+      ← read.read_put.ensures,
+      told.in-NoChange.is,
     )
 
 pub put_kept_spec : {M : Type 1} → statement M

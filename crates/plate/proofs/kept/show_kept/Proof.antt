@@ -4,30 +4,30 @@ use Rattle.plate_model.specs.declared.state.Outcome.TheVariants.{Accepted}
 use Rattle.plate_model.specs.Refusal.{show_kept_check}
 use Rattle.plate_model.specs.Calls.{show_by}
 use Rattle.plate_model.specs.Kept.{sums_by, show_kept_by, show_kept_call}
-use Rattle.plate.proofs.Laws.Showing.Image.{show_kept_ready}
+use Rattle.plate.proofs.Laws.Showing.Keeping.{show_kept_ready}
 use Rattle.plate.proofs.kept.show_kept.Statement.{statement}
 use Rattle.plate.proofs.kept.show_kept.Tie as tie
 
-abbrev start : tie.After-enum-told → tie.Start
-start c = c.before.before.before.before.before.before.before.before
+abbrev start : tie.In-Accepted → tie.Start
+start c = c.before.before.before.before.before.before.before
 
 -- the check passed
-passed : (c : tie.After-enum-told)
+passed : (c : tie.In-Accepted)
     → let a = (start c).args in
     show_kept_check a.state (length a.planes.now) (length a.scratch.now) (length a.values.now)
     (length a.mattes.now)
     (length a.sums.now)
     ≡ Accepted
-passed c = sym c.before.before.check-show-kept.ensures ∙ c.enum_told.given.1
+passed c = sym c.before.check_show_kept-outcome.ensures ∙ c.in-Accepted.is
 
-returns : tie.Need-returns
+returns : tie.Need-returns-in_default
 unfolding show_kept_call show_kept_by show_by sums_by
-returns c = let told = c.enum-told2.given.1 in rw (told, sym c.before.before.check-show-kept.ensures ∙ told)
+returns c = let told = c.in_default.is in rw (told, sym c.before.check_show_kept-outcome.ensures ∙ told)
 
-keep-all-requires : tie.Need-keep-all-requires
+keep-all-requires : tie.Need-keep_all-requires
 keep-all-requires c κs = show_kept_ready _ _ _ _ _ _ (passed c.before.before.before.before)
 
-returns-2 : tie.Need-returns-2
+returns-2 : tie.Need-returns
 unfolding show_kept_call
 returns-2 c =
     let done = c.before.before.before.before.before.before.before.before in

@@ -12,8 +12,8 @@ use Rattle.plate.proofs.kept.undo_kept.Statement.{statement}
 use Rattle.plate.proofs.kept.undo_kept.Tie as tie
 
 -- where the call starts, and what it is lent
-abbrev start : tie.After-read-undo → tie.Start
-start c = c.before.before.before.before.before.before.before.before.before.before.before.before.before
+abbrev start : tie.After-read_undo → tie.Start
+start c = c.before.before.before.before.before.before.before.before.before.before.before.before
 
 abbrev held : tie.Start → Lent
 held s = lent s.args.planes.now s.args.pixels.now s.args.log.now
@@ -22,49 +22,49 @@ abbrev kept : tie.Start → Canvas
 kept s = canvas s.args.sums.now s.args.values.now s.args.mattes.now
 
 -- sums and pictures passed the check
-checked : (c : tie.After-read-undo) → let s = start c in canvas_first s.args.state.size (kept s) ≡ Accepted
-checked c = let told = c.before.before.before in sym told.before.before.check-kept.ensures ∙ told.enum_told.given.1
+checked : (c : tie.After-read_undo) → let s = start c in canvas_first s.args.state.size (kept s) ≡ Accepted
+checked c = let told = c.before.before in sym told.before.before.check-kept.ensures ∙ told.enum_told.given.1
 
 -- the change that was read
-reads : (c : tie.After-change)
-    → let s = start c.before.before in
-    undo_read s.args.state (lengths_of (held s)) (held s).pixels (held s).log ≡ ToChange c.change.given.0.0
-reads c = sym c.before.before.read-undo.ensures ∙ c.change.given.1
+reads : (c : tie.In-ToChange)
+    → let s = start c.before in
+    undo_read s.args.state (lengths_of (held s)) (held s).pixels (held s).log ≡ ToChange c.in-ToChange.given.0.0
+reads c = sym c.before.read_undo.ensures ∙ c.in-ToChange.is
 
-returns : tie.Need-returns
+returns : tie.Need-returns-in-Refused
 unfolding undo_kept_call undo_kept_by kept_read canvas_by undo_by
 returns c =
-    let found = c.before.before in
-    rw (c.refused.ensures, ← found.before.before.check-kept.ensures, found.checked.given.1)
+    let found = c.before in
+    rw (c.refused.ensures, ← found.before.check_kept-checked.ensures, found.in-Refused.is)
 
 mend-requires : tie.Need-mend-requires
 mend-requires c κs =
-    let change = c.before.before.before.before in
-    let s = start change.before.before in
+    let change = c.before.before.before in
+    let s = start change.before in
     mend_ready _ _ _ (kept s) (undo_ready s.args.state (held s) _ (reads change)).changeable
-    (checked change.before.before)
+    (checked change.before)
 
-unlog-and-exchange-requires : tie.Need-unlog-and-exchange-requires
+unlog-and-exchange-requires : tie.Need-unlog_and_exchange-requires
 unlog-and-exchange-requires c κs =
     let mended = c.before.before.before.before.before.before.before in
-    let change = mended.before.before.before.before.before.before.before in
-    let s = start change.before.before in
+    let change = mended.before.before.before.before.before.before in
+    let s = start change.before in
     undo_ready s.args.state (held s) _ (reads change)
 
-returns-2 : tie.Need-returns-2
+returns-2 : tie.Need-returns-in-ToChange
 unfolding undo_kept_call undo_kept_by kept_read canvas_by
 returns-2 c =
     let made = c.before.before.before.before.before.before in
     let mended = made.before.before.before.before.before.before.before.before.before.before in
-    let change = mended.before.before.before.before.before in
-    rw (checked change.before.before, reads change)
-    (λ j. record { call = made.unlog-and-exchange.ensures j; canvas = mended.mend.ensures j })
+    let change = mended.before.before.before.before in
+    rw (checked change.before, reads change)
+    (λ j. record { call = made.unlog_and_exchange.ensures j; canvas = mended.mend.ensures j })
 
-returns-3 : tie.Need-returns-3
+returns-3 : tie.Need-returns-in-NoChange
 unfolding undo_kept_call undo_kept_by kept_read canvas_by undo_by
 returns-3 c =
-    let told = c.before.before in
-    rw (c.refused2.ensures, checked told.before.before, ← told.before.before.read-undo.ensures, told.why.given.1)
+    let told = c.before in
+    rw (c.refused-in-NoChange.ensures, checked told.before, ← told.before.read_undo.ensures, told.in-NoChange.is)
 
 pub undo_kept_spec : {M : Type 1} → statement M
 undo_kept_spec =

@@ -6,18 +6,18 @@ use Rattle.plate.proofs.lay.amounts_of.Tie as tie
 
 -- a part of an opacity is below 2^40
 product : (c : tie.Start) → c.args.p.opacity * c.args.part ≤ 255 * 4294967295
-product c = product_le c.args.p.opacity c.args.part 255 4294967295 (omega (arith, c.well-formed)) (omega (arith, c.well-formed))
+product c = product_le c.args.p.opacity c.args.part 255 4294967295 (omega (arith, c.well_formed)) (omega (arith, c.well_formed))
 
-mul-matte : tie.Need-overflow-mul-matte
+mul-matte : tie.Need-overflow_mul-matte
 mul-matte c = omega (arith, product c.before)
 
-mul-t5 : tie.Need-overflow-mul-t5
+mul-t5 : tie.Need-overflow_mul-result
 mul-t5 c =
     let s = c.before.before in
     let p = s.args.p in
     omega (
       arith,
-      product_le p.value (p.opacity * s.args.part) 65535 (255 * 4294967295) (omega (arith, s.well-formed)) (product s),
+      product_le p.value (p.opacity * s.args.part) 65535 (255 * 4294967295) (omega (arith, s.well_formed)) (product s),
     )
 
 pub amounts_of_spec : {M : Type 1} → statement M

@@ -10,7 +10,7 @@ use Rattle.plate.proofs.lay.corner_of.Tie as tie
 -- the corner fits a number
 corner : (s : tie.Start) → let a = s.args in corner_of a.frame a.x a.y a.reach < 2 ^ 64
 corner s =
-    let a = s.args in omega (arith, corner_in a.frame a.x a.y s.requires.0 a.reach, s.well-formed)
+    let a = s.args in omega (arith, corner_in a.frame a.x a.y s.requires.0 a.reach, s.well_formed)
 
 -- a column and a row of the plate, and as much as its reach, are small
 sides : (s : tie.Start)
@@ -20,18 +20,18 @@ sides s =
     let placed = s.requires.0 in
     let broad : f.wide ≡ wide f.size = ap (λ (g : Frame). g.wide) placed.framed in
     let tall : f.high ≡ high f.size = ap (λ (g : Frame). g.high) placed.framed in
-    (omega (arith, placed.column_in, s.well-formed), omega (arith, placed.row_in, s.well-formed))
+    (omega (arith, placed.column_in, s.well_formed), omega (arith, placed.row_in, s.well_formed))
 
-add-result : tie.Need-overflow-add-result
+add-result : tie.Need-overflow_add-result
 add-result c = omega (arith, sides c.before)
 
-mul-result : tie.Need-overflow-mul-result
+mul-result : tie.Need-overflow_mul-result
 mul-result c = omega (arith, corner c.before.before)
 
-add-result-2 : tie.Need-overflow-add-result-2
+add-result-2 : tie.Need-overflow_add-result-2
 add-result-2 c = omega (arith, sides c.before.before)
 
-add-result-3 : tie.Need-overflow-add-result-3
+add-result-3 : tie.Need-overflow_add-result-3
 add-result-3 c = omega (arith, corner c.before.before)
 
 pub corner_of_spec : {M : Type 1} → statement M

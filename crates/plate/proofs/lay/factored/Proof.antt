@@ -5,50 +5,50 @@ use Rattle.plate.proofs.Laws.Laying.Amounts.{times-one, times-times}
 use Rattle.plate.proofs.lay.factored.Statement.{statement}
 use Rattle.plate.proofs.lay.factored.Tie as tie
 
-returns : tie.Need-returns
+returns : tie.Need-returns-then-i-eq0
 unfolding sign choose minus
 returns c =
     let s = c.before in
-    rw c.if1.true (times-one s.args.w (omega (arith, s.well-formed)) (omega (arith, s.well-formed)))
+    rw c.if-i-eq0.true (times-one s.args.w (omega (arith, s.well_formed)) (omega (arith, s.well_formed)))
 
-returns-2 : tie.Need-returns-2
+returns-2 : tie.Need-returns-then-i-eq2
 unfolding sign choose minus
 returns-2 c =
     let s = c.before.before.before in
-    rw (c.before.if2.true, c.if3.true) (times-one s.args.w (omega (arith, s.well-formed)) (omega (arith, s.well-formed)))
+    rw (c.before.if-boxes-eq2.true, c.if-i-eq2.true) (times-one s.args.w (omega (arith, s.well_formed)) (omega (arith, s.well_formed)))
 
-returns-3 : tie.Need-returns-3
+returns-3 : tie.Need-returns-then-boxes-eq2
 unfolding sign choose minus
 returns-3 c =
     let else = c.before.before in
     let a = else.before.before.before.args in
     let one : a.i ≡ 1 = omega arith in
-    rw (else.before.if2.true, one)
+    rw (else.before.if-boxes-eq2.true, one)
     (c.opposite.ensures ∙ times-times a.w _ 2 (minus 1) c.before.twice.ensures)
 
-returns-4 : tie.Need-returns-4
+returns-4 : tie.Need-returns-then-i-eq3
 unfolding sign choose minus
 returns-4 c =
     let then = c.before in
     let a = then.before.before.before.args in
     let three : a.boxes ≡ 3 = omega arith in
-    rw (three, then.if4.true) c.opposite2.ensures
+    rw (three, then.if-i-eq3.true) c.opposite-then-i-eq3.ensures
 
-returns-5 : tie.Need-returns-5
+returns-5 : tie.Need-returns-then-i-eq2-2
 unfolding sign choose minus
 returns-5 c =
     let then = c.before in
     let a = then.before.before.before.before.args in
     let three : a.boxes ≡ 3 = omega arith in
-    rw (three, then.if5.true) c.thrice.ensures
+    rw (three, then.if-i-eq2-2.true) c.thrice.ensures
 
-returns-6 : tie.Need-returns-6
+returns-6 : tie.Need-returns
 unfolding sign choose minus
 returns-6 c =
     let a = c.before.before.before.before.before.before.args in
     let three : a.boxes ≡ 3 = omega arith in
     let one : a.i ≡ 1 = omega arith in
-    rw (three, one) (c.opposite3.ensures ∙ times-times a.w _ 3 (minus 1) c.before.thrice2.ensures)
+    rw (three, one) (c.opposite-2.ensures ∙ times-times a.w _ 3 (minus 1) c.before.thrice-2.ensures)
 
 pub factored_spec : {M : Type 1} → statement M
 factored_spec =

@@ -6,15 +6,15 @@ use Rattle.plate.proofs.Laws.Laying.Amounts.{times-one, drawn_append, box_column
 use Rattle.plate.proofs.lay.lay_box.Statement.{statement}
 use Rattle.plate.proofs.lay.lay_box.Tie as tie
 
-add-far : tie.Need-overflow-add-far
+add-far : tie.Need-overflow_add-far
 unfolding AllIn box_grid marks_to
 add-far c = omega arith
 
-lay-piece-requires : tie.Need-lay-piece-requires
+lay-piece-requires : tie.Need-lay_piece-requires
 unfolding AllIn box_grid marks_to
 lay-piece-requires c κs = search rules
 
-lay-piece-requires-2 : tie.Need-lay-piece-requires-2
+lay-piece-requires-2 : tie.Need-lay_piece-requires-2
 unfolding AllIn box_grid marks_to
 lay-piece-requires-2 c κs = search rules
 
@@ -22,12 +22,12 @@ returns : tie.Need-returns
 returns c =
     let a = c.before.before.before.before.before.before.before.before.before.before.args in
     let plus = times-one a.w (omega arith) (omega arith) in
-    let turned = c.before.before.before.before.before.before.before.before.opposite.ensures in
+    let turned = c.before.before.before.before.before.before.before.before.opposite-minus.ensures in
     rw (
       box_columns a.plane a.side,
       drawn_append,
-      c.before.before.lay-piece2.ensures a.w (minus 1) 1 turned plus,
-      c.before.before.before.before.before.before.lay-piece.ensures a.w 1 (minus 1) plus turned,
+      c.before.before.lay_piece-2.ensures a.w (minus 1) 1 turned plus,
+      c.before.before.before.before.before.before.lay_piece.ensures a.w 1 (minus 1) plus turned,
     )
 
 pub lay_box_spec : {M : Type 1} → statement M

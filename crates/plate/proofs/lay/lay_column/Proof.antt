@@ -8,60 +8,60 @@ use Rattle.plate.proofs.Laws.Laying.Amounts.{column_more, mark_in}
 use Rattle.plate.proofs.lay.lay_column.Statement.{statement}
 use Rattle.plate.proofs.lay.lay_column.Tie as tie
 
-abbrev invariant-loop : tie.invariant-loop
+abbrev invariant-loop : tie.invariant-loop-j
 invariant-loop planes₀ g b x w j₀ j-end planes j =
     (j ≤ j-end) × (length planes ≡ length planes₀)
     × ((v : Amounts) (c : ℕ) → w ≡ times v c
     → planes ≡ lay_drawn g v planes₀ (grid_column b.plane b.count b.side x c j))
 
-abbrev decreases-loop : tie.decreases-loop
+abbrev decreases-loop : tie.decreases-loop-j
 decreases-loop planes₀ g b x w j₀ j-end planes j = j-end - j
 
 -- where the loop begins
-abbrev start : tie.At-loop invariant-loop decreases-loop → tie.Start invariant-loop decreases-loop
+abbrev start : tie.At-loop-j invariant-loop decreases-loop → tie.Start invariant-loop decreases-loop
 start c = c.before.before.before
 
 -- no step along the column wraps
-steps : (c : tie.In-loop invariant-loop decreases-loop)
+steps : (c : tie.In-loop-j invariant-loop decreases-loop)
     → let a = (start c.before).args in
-    (c.before.loop.j * a.b.side ≤ a.b.count * a.b.side) × (margin + a.b.count * a.b.side < length a.planes.now)
+    (c.before.loop-j.j * a.b.side ≤ a.b.count * a.b.side) × (margin + a.b.count * a.b.side < length a.planes.now)
 steps c =
     let s = start c.before in
     let b = s.args.b in
-    let in_count : c.before.loop.j ≤ b.count = omega (arith, c.loop-test.true) in
-    (product_le c.before.loop.j b.side b.count b.side in_count (omega arith), s.pre.last_in)
+    let in_count : c.before.loop-j.j ≤ b.count = omega (arith, c.loop-j-test.true) in
+    (product_le c.before.loop-j.j b.side b.count b.side in_count (omega arith), s.requires.last_in)
 
-add-j-end : tie.Need-overflow-add-j-end invariant-loop decreases-loop
+add-j-end : tie.Need-overflow_add-j-end invariant-loop decreases-loop
 add-j-end c = omega (arith, c.before.before.requires.three_at_most)
 
-loop-holds : tie.Need-loop-init invariant-loop decreases-loop
+loop-holds : tie.Need-loop-j-init invariant-loop decreases-loop
 unfolding grid_column marks_to lay_drawn
 loop-holds c = (search rules, refl, λ v k e. refl)
 
-mul-lay-mark : tie.Need-overflow-mul-lay-mark invariant-loop decreases-loop
+mul-lay-mark : tie.Need-overflow_mul-j invariant-loop decreases-loop
 mul-lay-mark c = omega (arith, steps c.before.before)
 
-add-lay-mark : tie.Need-overflow-add-lay-mark invariant-loop decreases-loop
+add-lay-mark : tie.Need-overflow_add-j invariant-loop decreases-loop
 add-lay-mark c = omega (arith, steps c.before.before)
 
 factored-requires : tie.Need-factored-requires invariant-loop decreases-loop
 factored-requires c κs =
     let iteration = c.before.before in
-    let h = (start iteration.before).pre in
-    (h.two_at_least, h.three_at_most, omega (arith, iteration.loop-test.true))
+    let h = (start iteration.before).requires in
+    (h.two_at_least, h.three_at_most, omega (arith, iteration.loop-j-test.true))
 
-lay-mark-requires : tie.Need-lay-mark-requires invariant-loop decreases-loop
+lay-mark-requires : tie.Need-lay_mark-requires invariant-loop decreases-loop
 lay-mark-requires c κs =
     let iteration = c.before.before.before in
     let s = start iteration.before in
     let a = s.args in (
-      omega (arith, iteration.before.loop.invariant.1, s.pre.marks_fit.planes_are),
-      mark_in a.g a.b.plane a.b.count a.b.side a.x iteration.before.loop.j
-          (omega (arith, iteration.loop-test.true))
-          s.pre.marks_fit.inside,
+      omega (arith, iteration.before.loop-j.invariant.1, s.requires.marks_fit.planes_are),
+      mark_in a.g a.b.plane a.b.count a.b.side a.x iteration.before.loop-j.j
+          (omega (arith, iteration.loop-j-test.true))
+          s.requires.marks_fit.inside,
     )
 
-loop-again : tie.Need-loop-preserved invariant-loop decreases-loop
+loop-again : tie.Need-loop-j-preserved invariant-loop decreases-loop
 loop-again c =
     let laid = c.before.before in
     let iteration = laid.before.before.before.before in
@@ -69,15 +69,15 @@ loop-again c =
     let a = s.args in (
       omega arith,
       search rules,
-      λ v k e. rw (laid.lay-mark.ensures, iteration.before.loop.invariant.2 v k e, add-one)
+      λ v k e. rw (laid.lay_mark.ensures, iteration.before.loop-j.invariant.2 v k e, add-one)
           (column_more a.g v a.w _ a.planes.now a.b.plane a.b.count a.b.side a.x k
-          iteration.before.loop.j e
+          iteration.before.loop-j.j e
           laid.before.factored.ensures),
     )
 
 returns : tie.Need-returns invariant-loop decreases-loop
 returns c =
-    let iteration = c.before.loop in
+    let iteration = c.before.loop-j in
     let last : iteration.j ≡ suc (start c.before).args.b.count = omega arith in
     λ v k e. rw last at (iteration.invariant.2 v k e)
 

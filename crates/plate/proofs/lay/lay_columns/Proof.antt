@@ -9,61 +9,61 @@ use Rattle.plate.proofs.Laws.Laying.Amounts.{grid_to, columns_in, grid_more}
 use Rattle.plate.proofs.lay.lay_columns.Statement.{statement}
 use Rattle.plate.proofs.lay.lay_columns.Tie as tie
 
-abbrev invariant-loop : tie.invariant-loop
+abbrev invariant-loop : tie.invariant-loop-i
 invariant-loop planes₀ g b w i₀ i-end planes i =
     (i ≤ i-end) × (length planes ≡ length planes₀) × (planes ≡ lay_drawn g w planes₀ (grid_to b i))
 
-abbrev decreases-loop : tie.decreases-loop
+abbrev decreases-loop : tie.decreases-loop-i
 decreases-loop planes₀ g b w i₀ i-end planes i = i-end - i
 
 -- where the loop begins
-abbrev start : tie.At-loop invariant-loop decreases-loop → tie.Start invariant-loop decreases-loop
+abbrev start : tie.At-loop-i invariant-loop decreases-loop → tie.Start invariant-loop decreases-loop
 start c = c.before.before.before
 
 -- the column that an iteration lays is inside
-inside : (c : tie.In-loop invariant-loop decreases-loop)
+inside : (c : tie.In-loop-i invariant-loop decreases-loop)
     → let a = (start c.before).args in
-    AllIn a.g (column_marks a.b (margin + c.before.loop.i * a.b.side) 1)
+    AllIn a.g (column_marks a.b (margin + c.before.loop-i.i * a.b.side) 1)
     × (margin + a.b.count * a.b.side < planes_each * a.g.padded)
 unfolding drawn_marks
 inside c =
     let s = start c.before in
     let b = s.args.b in
-    columns_in s.args.g b.plane b.count b.side c.before.loop.i (omega (arith, c.loop-test.true))
-    s.pre.0.inside
+    columns_in s.args.g b.plane b.count b.side c.before.loop-i.i (omega (arith, c.loop-i-test.true))
+    s.requires.0.inside
 
 -- no step along the grid wraps
-steps : (c : tie.In-loop invariant-loop decreases-loop)
+steps : (c : tie.In-loop-i invariant-loop decreases-loop)
     → let a = (start c.before).args in
-    (c.before.loop.i * a.b.side ≤ a.b.count * a.b.side) × (margin + a.b.count * a.b.side < length a.planes.now)
+    (c.before.loop-i.i * a.b.side ≤ a.b.count * a.b.side) × (margin + a.b.count * a.b.side < length a.planes.now)
 steps c =
     let s = start c.before in
     let b = s.args.b in
-    let in_count : c.before.loop.i ≤ b.count = omega (arith, c.loop-test.true) in (
-      product_le c.before.loop.i b.side b.count b.side in_count (omega arith),
-      omega (arith, (inside c).1, s.pre.0.planes_are),
+    let in_count : c.before.loop-i.i ≤ b.count = omega (arith, c.loop-i-test.true) in (
+      product_le c.before.loop-i.i b.side b.count b.side in_count (omega arith),
+      omega (arith, (inside c).1, s.requires.0.planes_are),
     )
 
-add-i-end : tie.Need-overflow-add-i-end invariant-loop decreases-loop
+add-i-end : tie.Need-overflow_add-i-end invariant-loop decreases-loop
 add-i-end c = omega (arith, c.before.before.requires.2)
 
-loop-holds : tie.Need-loop-init invariant-loop decreases-loop
+loop-holds : tie.Need-loop-i-init invariant-loop decreases-loop
 unfolding grid_to marks_to lay_drawn
 loop-holds c = (search rules, refl, refl)
 
-mul-lay-column : tie.Need-overflow-mul-lay-column invariant-loop decreases-loop
+mul-lay-column : tie.Need-overflow_mul-i invariant-loop decreases-loop
 mul-lay-column c = omega (arith, steps c.before.before)
 
-add-lay-column : tie.Need-overflow-add-lay-column invariant-loop decreases-loop
+add-lay-column : tie.Need-overflow_add-i invariant-loop decreases-loop
 add-lay-column c = omega (arith, steps c.before.before)
 
 factored-requires : tie.Need-factored-requires invariant-loop decreases-loop
 factored-requires c κs =
     let iteration = c.before.before in
-    let h = (start iteration.before).pre in
-    (h.1, h.2, omega (arith, iteration.loop-test.true))
+    let h = (start iteration.before).requires in
+    (h.1, h.2, omega (arith, iteration.loop-i-test.true))
 
-lay-column-requires : tie.Need-lay-column-requires invariant-loop decreases-loop
+lay-column-requires : tie.Need-lay_column-requires invariant-loop decreases-loop
 lay-column-requires c κs =
     let iteration = c.before.before.before in
     let s = start iteration.before in
@@ -71,34 +71,34 @@ lay-column-requires c κs =
     let column = inside iteration in
     record {
       marks-fit =
-          record { planes-are = omega (arith, iteration.before.loop.invariant.1, s.pre.0.planes_are); inside = column.0 };
-      last-in = omega (arith, iteration.before.loop.invariant.1, s.pre.0.planes_are, column.1);
-      two-at-least = s.pre.1;
-      three-at-most = s.pre.2;
+          record { planes_are = omega (arith, iteration.before.loop-i.invariant.1, s.requires.0.planes_are); inside = column.0 };
+      last_in = omega (arith, iteration.before.loop-i.invariant.1, s.requires.0.planes_are, column.1);
+      two_at_least = s.requires.1;
+      three_at_most = s.requires.2;
     }
 
-loop-again : tie.Need-loop-preserved invariant-loop decreases-loop
+loop-again : tie.Need-loop-i-preserved invariant-loop decreases-loop
 loop-again c =
     let laid = c.before.before in
     let iteration = laid.before.before.before.before in
     let s = start iteration.before in
     let a = s.args in
-    let i = iteration.before.loop.i in (
+    let i = iteration.before.loop-i.i in (
       omega arith,
       search rules,
       rw add-one
-          (laid.lay-column.ensures a.w (factor a.b.count i) laid.before.factored.ensures
+          (laid.lay_column.ensures a.w (factor a.b.count i) laid.before.factored.ensures
           ∙ ap
           (λ (cells : List ℕ). lay_drawn a.g a.w cells
           (column_marks a.b (margin + i * a.b.side) (factor a.b.count i)))
-          iteration.before.loop.invariant.2
+          iteration.before.loop-i.invariant.2
           ∙ grid_more a.g a.w a.planes.now a.b i),
     )
 
 returns : tie.Need-returns invariant-loop decreases-loop
 unfolding drawn_marks box_grid grid_to
 returns c =
-    let iteration = c.before.loop in
+    let iteration = c.before.loop-i in
     let last : iteration.i ≡ suc (start c.before).args.b.count = omega arith in
     rw last at iteration.invariant.2
 

@@ -3,23 +3,23 @@ use Rattle.std.proofs.Common.{rules}
 use Rattle.plate.proofs.lay.lay_drawing.Statement.{statement}
 use Rattle.plate.proofs.lay.lay_drawing.Tie as tie
 
-lay-grid-requires : tie.Need-lay-grid-requires
+lay-grid-requires : tie.Need-lay_grid-requires
 lay-grid-requires c κs =
-    let known = c.before.before in rw (← known.d.given.1) known.before.before.before.requires
+    let known = c.before in rw (← known.in-Grid.is) known.before.before.requires
 
-lay-lines-requires : tie.Need-lay-lines-requires
+lay-lines-requires : tie.Need-lay_lines-requires
 lay-lines-requires c κs =
-    let known = c.before.before in rw (← known.d2.given.1) known.before.before.before.requires.0
+    let known = c.before in rw (← known.in-Lines.is) known.before.before.requires.0
 
-returns : tie.Need-returns
+returns : tie.Need-returns-in-Grid
 returns c =
     let laid = c.before.before in
-    rw (laid.lay-grid.ensures, laid.before.before.before.d.given.1)
+    rw (laid.lay_grid.ensures, laid.before.before.in-Grid.is)
 
-returns-2 : tie.Need-returns-2
+returns-2 : tie.Need-returns-in-Lines
 returns-2 c =
     let laid = c.before.before in
-    rw (laid.lay-lines.ensures, laid.before.before.before.d2.given.1)
+    rw (laid.lay_lines.ensures, laid.before.before.in-Lines.is)
 
 pub lay_drawing_spec : {M : Type 1} → statement M
 lay_drawing_spec =

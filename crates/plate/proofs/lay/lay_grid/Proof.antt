@@ -5,25 +5,25 @@ use Rattle.plate.specs.Laying.{FewBoxes}
 use Rattle.plate.proofs.lay.lay_grid.Statement.{statement}
 use Rattle.plate.proofs.lay.lay_grid.Tie as tie
 
-lay-box-requires : tie.Need-lay-box-requires
+lay-box-requires : tie.Need-lay_box-requires
 unfolding drawn_marks
-lay-box-requires c κs = let then = c.before in rw then.if1.true at then.before.before.before.requires.0
+lay-box-requires c κs = let then = c.before in rw then.if-b-eq1.true at then.before.before.before.requires.0
 
-returns : tie.Need-returns
+returns : tie.Need-returns-then-b-eq1
 unfolding drawn_marks
 returns c =
     let laid = c.before.before in
-    rw (laid.lay-box.ensures, laid.before.before.if1.true)
+    rw (laid.lay_box.ensures, laid.before.before.if-b-eq1.true)
 
-lay-columns-requires : tie.Need-lay-columns-requires
+lay-columns-requires : tie.Need-lay_columns-requires
 unfolding FewBoxes
 lay-columns-requires c κs =
     let else = c.before in
     let s = else.before.before.before in
     (s.requires.0, omega (arith, s.requires.1), omega (arith, s.requires.1))
 
-returns-2 : tie.Need-returns-2
-returns-2 c = c.before.before.lay-columns.ensures
+returns-2 : tie.Need-returns
+returns-2 c = c.before.before.lay_columns.ensures
 
 pub lay_grid_spec : {M : Type 1} → statement M
 lay_grid_spec =

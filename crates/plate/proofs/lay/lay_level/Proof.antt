@@ -5,24 +5,24 @@ use Rattle.plate.specs.Laying.{AllIn, lay_drawn, level_marks}
 use Rattle.plate.proofs.lay.lay_level.Statement.{statement}
 use Rattle.plate.proofs.lay.lay_level.Tie as tie
 
-returns : tie.Need-returns
+returns : tie.Need-returns-then-not-o
 unfolding lay_drawn level_marks
-returns c = let flat = c.before.before.before.args.o.flat in λ w k d e f. rw (not-true flat c.if1.true)
+returns c = let flat = c.before.before.before.args.o.flat in λ w k d e f. rw (not-true flat c.if-not-o.true)
 
-lay-piece-requires : tie.Need-lay-piece-requires
+lay-piece-requires : tie.Need-lay_piece-requires
 unfolding AllIn level_marks
 lay-piece-requires c κs =
     let flat = c.before in
     let start = flat.before.before.before in
-    rw (not-false start.args.o.flat flat.if1.false) at start.requires
+    rw (not-false start.args.o.flat flat.if-not-o.false) at start.requires
 
-returns-2 : tie.Need-returns-2
+returns-2 : tie.Need-returns
 unfolding level_marks
 returns-2 c =
     let laid = c.before.before in
     let flat = laid.before.before in
-    let flat-is = not-false flat.before.before.before.args.o.flat flat.if1.false in
-    λ w k d e f. rw flat-is (laid.lay-piece.ensures w k d e f)
+    let flat-is = not-false flat.before.before.before.args.o.flat flat.if-not-o.false in
+    λ w k d e f. rw flat-is (laid.lay_piece.ensures w k d e f)
 
 pub lay_level_spec : {M : Type 1} → statement M
 lay_level_spec = tie.close (tie.spec returns lay-piece-requires (λ c. search rules) returns-2)

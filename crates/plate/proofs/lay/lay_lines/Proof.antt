@@ -8,7 +8,7 @@ use Rattle.plate.proofs.lay.lay_lines.Statement.{statement}
 use Rattle.plate.proofs.lay.lay_lines.Tie as tie
 
 -- where the call starts
-abbrev start : tie.After-lay-piece → tie.Start
+abbrev start : tie.After-lay_piece → tie.Start
 start c = c.before.before.before.before.before.before
 
 -- the pieces of both lines lie in the planes
@@ -19,39 +19,39 @@ bottom_in : (s : tie.Start) → let o = s.args.o in LineIn s.args.g o.falling o.
 bottom_in s = line_in _ _ _ _ _ (lines_in _ _ s.requires.inside).1
 
 -- piece after piece
-abbrev top-level : tie.After-lay-piece2 → tie.After-lay-level
+abbrev top-level : tie.After-lay_piece-2 → tie.After-lay_level
 top-level c = c.before.before.before.before
 
-abbrev top-first : tie.After-lay-level → tie.After-lay-piece
+abbrev top-first : tie.After-lay_level → tie.After-lay_piece
 top-first c = c.before.before.before.before
 
-abbrev bottom-first : tie.After-lay-level2 → tie.After-lay-piece3
+abbrev bottom-first : tie.After-lay_level-2 → tie.After-lay_piece-3
 bottom-first c = c.before.before.before.before
 
-abbrev top-last : tie.After-lay-piece3 → tie.After-lay-piece2
+abbrev top-last : tie.After-lay_piece-3 → tie.After-lay_piece-2
 top-last c = c.before.before.before.before
 
-lay-piece-requires : tie.Need-lay-piece-requires
+lay-piece-requires : tie.Need-lay_piece-requires
 lay-piece-requires c κs =
     let s = c.before.before.before.before.before in
-    record { planes-are = s.requires.planes_are; inside = (top_in s).first }
+    record { planes_are = s.requires.planes_are; inside = (top_in s).first }
 
-lay-level-requires : tie.Need-lay-level-requires
+lay-level-requires : tie.Need-lay_level-requires
 lay-level-requires c κs =
     let s = start c.before.before.before in
-    record { planes-are = omega (arith, s.pre.planes_are); inside = (top_in s).middle }
+    record { planes_are = omega (arith, s.requires.planes_are); inside = (top_in s).middle }
 
-lay-piece-requires-2 : tie.Need-lay-piece-requires-2
+lay-piece-requires-2 : tie.Need-lay_piece-requires-2
 lay-piece-requires-2 c κs =
     let s = start (top-first c.before.before.before) in
-    record { planes-are = omega (arith, s.pre.planes_are); inside = (top_in s).last }
+    record { planes_are = omega (arith, s.requires.planes_are); inside = (top_in s).last }
 
-lay-piece-requires-3 : tie.Need-lay-piece-requires-3
+lay-piece-requires-3 : tie.Need-lay_piece-requires-3
 lay-piece-requires-3 c κs =
     let s = start (top-first (top-level c.before.before.before)) in
-    record { planes-are = omega (arith, s.pre.planes_are); inside = (bottom_in s).first }
+    record { planes_are = omega (arith, s.requires.planes_are); inside = (bottom_in s).first }
 
-lay-level-requires-2 : tie.Need-lay-level-requires-2
+lay-level-requires-2 : tie.Need-lay_level-requires-2
 lay-level-requires-2 c κs =
     let piece3 = c.before.before.before in
     let piece2 = top-last piece3 in
@@ -59,18 +59,18 @@ lay-level-requires-2 c κs =
     let piece1 = top-first level1 in
     let s = start piece1 in
     record {
-      planes-are = omega (
+      planes_are = omega (
         arith,
-        c.before.before.planes4.given,
-        piece3.before.before.before.planes3.given,
+        c.before.before.planes-4-1.given,
+        piece3.before.before.before.planes-3-1.given,
         piece2.before.before.before.planes2.given,
         level1.before.before.before.planes.given,
-        s.pre.planes_are,
+        s.requires.planes_are,
       );
       inside = (bottom_in s).middle;
     }
 
-lay-piece-requires-4 : tie.Need-lay-piece-requires-4
+lay-piece-requires-4 : tie.Need-lay_piece-requires-4
 lay-piece-requires-4 c κs =
     let level2 = c.before.before.before in
     let piece3 = bottom-first level2 in
@@ -79,14 +79,14 @@ lay-piece-requires-4 c κs =
     let piece1 = top-first level1 in
     let s = start piece1 in
     record {
-      planes-are = omega (
+      planes_are = omega (
         arith,
-        c.before.before.planes5.given,
-        level2.before.before.before.planes4.given,
+        c.before.before.planes-5-1.given,
+        level2.before.before.before.planes-4-1.given,
         piece3.before.before.before.planes3.given,
         piece2.before.before.before.planes2.given,
         level1.before.before.before.planes.given,
-        s.pre.planes_are,
+        s.requires.planes_are,
       );
       inside = (bottom_in s).last;
     }
@@ -103,15 +103,15 @@ returns c =
     let turned = piece1.before.before.before.before in
     let s = start piece1 in
     let w = s.args.w in
-    let plus = times-one w (omega (arith, s.good)) (omega (arith, s.good)) in
+    let plus = times-one w (omega (arith, s.well_formed)) (omega (arith, s.well_formed)) in
     let less = turned.opposite.ensures in
     both_laid _ w _ _ _
     (both_laid _ w _ _ _ (piece1.lay-piece.ensures w 1 (minus 1) plus less)
     (both_laid _ w _ _ _ (level1.lay-level.ensures w 1 (minus 1) plus less)
     (piece2.lay-piece2.ensures w 1 (minus 1) plus less)))
     (both_laid _ w _ _ _ (piece3.lay-piece3.ensures w (minus 1) 1 less plus)
-    (both_laid _ w _ _ _ (level2.lay-level2.ensures w (minus 1) 1 less plus)
-    (last.lay-piece4.ensures w (minus 1) 1 less plus)))
+    (both_laid _ w _ _ _ (level2.lay_level-2.ensures w (minus 1) 1 less plus)
+    (last.lay_piece-4.ensures w (minus 1) 1 less plus)))
 
 pub lay_lines_spec : {M : Type 1} → statement M
 lay_lines_spec =

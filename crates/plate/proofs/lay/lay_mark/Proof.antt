@@ -5,15 +5,15 @@ use Rattle.plate.specs.Laying.{lay_amounts}
 use Rattle.plate.proofs.lay.lay_mark.Statement.{statement}
 use Rattle.plate.proofs.lay.lay_mark.Tie as tie
 
-slice-read-wrapping-add-u64-2 : tie.Need-slice-read-wrapping-add-u64-2
+slice-read-wrapping-add-u64-2 : tie.Need-bounds-planes-matte
 slice-read-wrapping-add-u64-2 c = simp length-set (omega arith)
 
-slice-write-planes-2 : tie.Need-slice-write-planes-2
+slice-write-planes-2 : tie.Need-bounds-planes-matte-2
 slice-write-planes-2 c = simp length-set (omega arith)
 
 returns : tie.Need-returns
 unfolding lay_amounts lay_one
-returns c = rw (c.wrapping-add-u642.ensures, c.before.before.wrapping-add-u64.ensures)
+returns c = rw (c.wrapping_add_u64-2.ensures, c.before.before.wrapping_add_u64.ensures)
 
 pub lay_mark_spec : {M : Type 1} → statement M
 lay_mark_spec =

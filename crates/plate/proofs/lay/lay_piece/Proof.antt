@@ -4,11 +4,11 @@ use Rattle.plate.specs.Laying.{AllIn, lay_drawn}
 use Rattle.plate.proofs.lay.lay_piece.Statement.{statement}
 use Rattle.plate.proofs.lay.lay_piece.Tie as tie
 
-lay-mark-requires : tie.Need-lay-mark-requires
+lay-mark-requires : tie.Need-lay_mark-requires
 unfolding AllIn
 lay-mark-requires c κs = omega arith
 
-lay-mark-requires-2 : tie.Need-lay-mark-requires-2
+lay-mark-requires-2 : tie.Need-lay_mark-requires-2
 unfolding AllIn
 lay-mark-requires-2 c κs = omega arith
 
@@ -16,7 +16,7 @@ returns : tie.Need-returns
 unfolding lay_drawn
 returns c =
     λ w k d e f. rw
-    (c.before.before.lay-mark2.ensures, c.before.before.before.before.before.before.lay-mark.ensures, e, f)
+    (c.before.before.lay_mark-2.ensures, c.before.before.before.before.before.before.lay_mark.ensures, e, f)
 
 pub lay_piece_spec : {M : Type 1} → statement M
 lay_piece_spec = tie.close (tie.spec lay-mark-requires lay-mark-requires-2 (λ c. search rules) returns)

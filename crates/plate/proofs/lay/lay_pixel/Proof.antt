@@ -8,25 +8,25 @@ use Rattle.plate.proofs.lay.lay_pixel.Tie as tie
 abbrev start : tie.After-reach → tie.Start
 start c = c.before.before.before.before
 
-corner-of-requires : tie.Need-corner-of-requires
+corner-of-requires : tie.Need-corner_of-corner-requires
 corner-of-requires c κs =
     let s = start c in
-    (s.pre.placed, rw c.reach.ensures (pixel_reaches _ _ _ _ _ _ s.pre))
+    (s.requires.placed, rw c.reach.ensures (pixel_reaches _ _ _ _ _ _ s.requires))
 
-lay-taps-requires : tie.Need-lay-taps-requires
+lay-taps-requires : tie.Need-lay_taps-requires
 lay-taps-requires c κs =
     let cornered = c.before.before in
     let reached = cornered.before in
     let s = start reached in
-    rw (cornered.corner-of.ensures, reached.reach.ensures)
-    (kernel_fits _ _ _ s.pre.placed _ _ (pixel_reaches _ _ _ _ _ _ s.pre) _ s.pre.planes_are)
+    rw (cornered.corner_of-corner.ensures, reached.reach.ensures)
+    (kernel_fits _ _ _ s.requires.placed _ _ (pixel_reaches _ _ _ _ _ _ s.requires) _ s.requires.planes_are)
 
-lay-centre-requires : tie.Need-lay-centre-requires
+lay-centre-requires : tie.Need-lay_centre-requires
 lay-centre-requires c κs =
     let middle = c.before.before.before.before.before in
     let s = start middle.before.before in
-    rw middle.corner-of2.ensures
-    (kernel_fits _ _ _ s.pre.placed Box 0 (omega arith) _ (search rules ∙ s.pre.planes_are))
+    rw middle.corner_of-middle.ensures
+    (kernel_fits _ _ _ s.requires.placed Box 0 (omega arith) _ (search rules ∙ s.requires.planes_are))
 
 returns : tie.Need-returns
 returns c =
@@ -40,15 +40,15 @@ returns c =
     let s = start reached in
     let a = s.args in
     rw (
-      centred.lay-centre.ensures,
-      middle.corner-of2.ensures,
-      laid.lay-taps.ensures,
-      cornered.corner-of.ensures,
+      centred.lay_centre.ensures,
+      middle.corner_of-middle.ensures,
+      laid.lay_taps.ensures,
+      cornered.corner_of-corner.ensures,
       reached.reach.ensures,
-      centre.amounts-of2.ensures,
-      taps.amounts-of.ensures,
+      centre.amounts_of-centre.ensures,
+      taps.amounts_of-taps.ensures,
     )
-    (pixel_laid a.frame _ a.x a.y a.p a.share s.pre _)
+    (pixel_laid a.frame _ a.x a.y a.p a.share s.requires _)
 
 pub lay_pixel_spec : {M : Type 1} → statement M
 lay_pixel_spec =

@@ -5,7 +5,7 @@ use Rattle.plate.proofs.Laws.Laying.Corners.{few_boxes}
 use Rattle.plate.proofs.lay.lay_taps.Statement.{statement}
 use Rattle.plate.proofs.lay.lay_taps.Tie as tie
 
-lay-drawing-requires : tie.Need-lay-drawing-requires
+lay-drawing-requires : tie.Need-lay_drawing-requires
 lay-drawing-requires c κs =
     let s = c.before.before.before in
     let a = s.args in (
@@ -15,7 +15,7 @@ lay-drawing-requires c κs =
 
 returns : tie.Need-returns
 returns c =
-    let laid = c.before.before in rw (laid.lay-drawing.ensures, laid.before.draw.ensures, drawing_marks)
+    let laid = c.before.before in rw (laid.lay_drawing.ensures, laid.before.draw.ensures, drawing_marks)
 
 pub lay_taps_spec : {M : Type 1} → statement M
 lay_taps_spec = tie.close (tie.spec (λ c κs. search rules) lay-drawing-requires (λ c. search rules) returns)

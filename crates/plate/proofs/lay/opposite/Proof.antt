@@ -8,8 +8,8 @@ returns : tie.Need-returns
 returns c =
     let w = c.before.before.args.w in
     rw (
-      opposite_number c.before.wrapping-sub-u64.result w.light (search rules) c.before.wrapping-sub-u64.ensures,
-      opposite_number c.wrapping-sub-u642.result w.matte (search rules) c.wrapping-sub-u642.ensures,
+      opposite_number c.before.wrapping_sub_u64.result w.light (search rules) c.before.wrapping_sub_u64.ensures,
+      opposite_number c.wrapping_sub_u64-2.result w.matte (search rules) c.wrapping_sub_u64-2.ensures,
     )
 
 pub opposite_spec : {M : Type 1} → statement M

@@ -8,9 +8,9 @@ returns : tie.Need-returns
 returns c =
     let w = c.before.before.before.args.w in
     rw (
-      c.before.wrapping-add-u64.ensures,
-      c.wrapping-add-u642.ensures,
-      c.before.before.twice.ensures,
+      c.before.wrapping_add_u64.ensures,
+      c.wrapping_add_u64-2.ensures,
+      c.before.before.twice-two.ensures,
       thrice_number w.light,
       thrice_number w.matte,
     )

@@ -8,8 +8,8 @@ returns : tie.Need-returns
 returns c =
     let w = c.before.before.args.w in
     rw (
-      c.before.wrapping-add-u64.ensures,
-      c.wrapping-add-u642.ensures,
+      c.before.wrapping_add_u64.ensures,
+      c.wrapping_add_u64-2.ensures,
       twice_number w.light,
       twice_number w.matte,
     )

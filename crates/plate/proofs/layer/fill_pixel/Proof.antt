@@ -8,48 +8,48 @@ use Rattle.plate.proofs.layer.fill_pixel.Statement.{statement}
 use Rattle.plate.proofs.layer.fill_pixel.Tie as tie
 
 -- the radius of the pixel
-radius : (c : tie.After-radius)
-    → let a = c.before.before.before.before.args in
-    c.radius.given.0.0 ≡ min a.layer.top (blur a.layer.lens a.depth)
+radius : (c : tie.In-Pixels)
+    → let a = c.before.before.before.args in
+    c.in-Pixels.given.0.0 ≡ min a.layer.top (blur a.layer.lens a.depth)
 radius c =
-    let start = c.before.before.before.before in
+    let start = c.before.before.before in
     let a = start.args in
     radius_is a.layer.lens a.layer.top a.depth _ _ start.requires.0.lens_lawful start.requires.2.depth_in
-    c.before.before.radius-from.ensures
-    c.radius.given.1
+    c.before.radius_from.ensures
+    c.in-Pixels.is
 
-returns : tie.Need-returns
+returns : tie.Need-returns-in_default
 returns c =
     let found = c.before in
     let start = found.before.before in
     let a = start.args in
     let some =
-    radius_read _ a.layer.lens a.layer.top a.depth found.radius-from.ensures
+    radius_read _ a.layer.lens a.layer.top a.depth found.radius_from.ensures
     start.requires.0.lens_lawful start.requires.2.depth_in in
-    absurd (⊎_elim (λ q. omega arith) (λ q. omega arith) (rw some at c.match.keys2))
+    absurd (⊎_elim (λ q. omega arith) (λ q. omega arith) (rw some at c.in_default.is))
 
-lay-pixel-requires : tie.Need-lay-pixel-requires
+lay-pixel-requires : tie.Need-lay_pixel-requires
 lay-pixel-requires c κs =
     let shared = c.before in
-    let known = shared.before.before.before in
-    let start = known.before.before.before.before in
+    let known = shared.before.before in
+    let start = known.before.before.before in
     let h = start.requires in
     record {
-      placed = record { framed = h.0.framed; column-in = h.2.column_in; row_in = h.2.row_in };
-      planes-are = rw h.0.framed h.0.planes_are;
-      radius-fits = omega (arith, radius known, h.0.top_is);
-      share-is = shared.share_in.ensures ∙ rw h.1 (table_share_lem _ _);
+      placed = record { framed = h.0.framed; column_in = h.2.column_in; row_in = h.2.row_in };
+      planes_are = rw h.0.framed h.0.planes_are;
+      radius_fits = omega (arith, radius known, h.0.top_is);
+      share_is = shared.share_in-share.ensures ∙ rw h.1 (table_share_lem _ _);
     }
 
 pack-requires : tie.Need-pack-requires
 pack-requires c κs =
-    c.before.before.before.before.before.before.before.before.before.before.before.requires.2.value_in
+    c.before.before.before.before.before.before.before.before.before.requires.2.value_in
 
-returns-2 : tie.Need-returns-2
+returns-2 : tie.Need-returns
 returns-2 c =
     let laid = c.before.before.before in
-    let r = radius laid.before.before.before.before.before in
-    record { laid = rw (laid.lay-pixel.ensures, r); word-is = rw (c.pack.ensures, r) }
+    let r = radius laid.before.before.before.before in
+    record { laid = rw (laid.lay_pixel.ensures, r); word_is = rw (c.pack.ensures, r) }
 
 pub fill_pixel_spec : {M : Type 1} → statement M
 fill_pixel_spec =

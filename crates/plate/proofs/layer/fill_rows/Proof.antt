@@ -6,44 +6,44 @@ use Rattle.plate.proofs.Laws.Filling.Filling.{filled_none}
 use Rattle.plate.proofs.layer.fill_rows.Statement.{statement}
 use Rattle.plate.proofs.layer.fill_rows.Tie as tie
 
-abbrev invariant-loop : tie.invariant-loop
+abbrev invariant-loop : tie.invariant-loop-y
 invariant-loop planes₀ pixels₀ table layer values opacities depths height y₀ planes pixels y =
     (y ≤ height) × (length planes ≡ length planes₀) × (length pixels ≡ length pixels₀)
     × FilledTo layer (inputs values opacities depths) planes₀ planes pixels (y * (layer_size layer).width)
 
-abbrev decreases-loop : tie.decreases-loop
+abbrev decreases-loop : tie.decreases-loop-y
 decreases-loop planes₀ pixels₀ table layer values opacities depths height y₀ planes pixels y = height - y
 
 -- where the loop begins
-abbrev entry : tie.At-loop invariant-loop decreases-loop → tie.Start invariant-loop decreases-loop
+abbrev entry : tie.At-loop-y invariant-loop decreases-loop → tie.Start invariant-loop decreases-loop
 entry c = c.before.before.before.before.before.before
 
-loop-holds : tie.Need-loop-init invariant-loop decreases-loop
+loop-holds : tie.Need-loop-y-init invariant-loop decreases-loop
 loop-holds c = (search rules, refl, refl, filled_none _ _ _ _ _ (omega arith))
 
-fill-row-requires : tie.Need-fill-row-requires invariant-loop decreases-loop
+fill-row-requires : tie.Need-fill_row-requires invariant-loop decreases-loop
 fill-row-requires c κs =
     let iteration = c.before.before in
     let start = entry iteration.before in (
-      rw (iteration.before.loop.invariant.1, iteration.before.loop.invariant.2) start.pre.0,
-      start.pre.1,
-      iteration.loop-test.true,
+      rw (iteration.before.loop-y.invariant.1, iteration.before.loop-y.invariant.2) start.requires.0,
+      start.requires.1,
+      iteration.loop-y-test.true,
     )
 
-loop-again : tie.Need-loop-preserved invariant-loop decreases-loop
+loop-again : tie.Need-loop-y-preserved invariant-loop decreases-loop
 unfolding FilledRow
 loop-again c =
     let made = c.before.before.before.before in
-    let iteration = made.before.before.before.before.loop in
-    (omega arith, search rules, search rules, made.fill-row.ensures _ iteration.invariant.3)
+    let iteration = made.before.before.before.before.loop-y in
+    (omega arith, search rules, search rules, made.fill_row.ensures _ iteration.invariant.3)
 
 returns : tie.Need-returns invariant-loop decreases-loop
 returns c =
     let z = layer_size (entry c.before).args.layer in
-    let last : z.height ≡ c.before.loop.y = omega arith in
-    let all : z.width * z.height ≡ c.before.loop.y * z.width =
+    let last : z.height ≡ c.before.loop-y.y = omega arith in
+    let all : z.width * z.height ≡ c.before.loop-y.y * z.width =
     mul_comm z.width z.height ∙ ap (λ (n : ℕ). n * z.width) last in
-    rw all c.before.loop.invariant.3
+    rw all c.before.loop-y.invariant.3
 
 pub fill_rows_spec : {M : Type 1} → statement M
 fill_rows_spec =

@@ -11,81 +11,81 @@ use Rattle.kernels_model.specs.Fixed.{depth_top}
 use Rattle.kernels_model.proofs.Taps.ShapeNumbers.{shape_read_lem}
 
 -- past the values' check and the shape's
-past : (c : tie.After-known-told) (opacities : List ℕ)
-    → let a = c.before.before.before.before.before.before.before.before.args in
+past : (c : tie.In-Known) (opacities : List ℕ)
+    → let a = c.before.before.before.before.before.before.args in
     layer_check a.lens a.shape (inputs a.values.now opacities a.depths.now)
     ≡ lens_check a.lens (depths_check a.depths.now (inside_check a.lens a.depths.now Accepted))
 unfolding layer_check refuse_if shape_check
 past c opacities =
-    let known = c.before in
-    let shaped = known.before.before in
+    let known = c in
+    let shaped = known.before in
     let valued = shaped.before in
     rw (
-      ← valued.before.value-above.ensures,
-      valued.if1.false,
+      ← valued.before.value_above.ensures,
+      valued.if-value_above.false,
       ← shape_read_lem _ _ shaped.shape_of.ensures,
-      known.known.given.1,
+      known.in-Known.is,
     )
 
 -- the scan for depths past their top
-deep : (c : tie.After-depth-between)
+deep : (c : tie.After-depth_between)
     → let shaped = c.before.before.before in
-    let a = shaped.before.before.before.before.before.before.before.before.args in
-    c.depth-between.result ≡ any_above depth_top a.depths.now
-deep c = above_found depth_top _ _ c.depth-between.ensures.0 c.depth-between.ensures.1
+    let a = shaped.before.before.before.before.before.before.args in
+    c.depth_between.result ≡ any_above depth_top a.depths.now
+deep c = above_found depth_top _ _ c.depth_between.ensures.0 c.depth_between.ensures.1
 
 -- past the lens's check too, by that scan
-past-lens : (c : tie.After-depth-between) (opacities : List ℕ)
+past-lens : (c : tie.After-depth_between) (opacities : List ℕ)
     → let shaped = c.before.before.before in
-    let a = shaped.before.before.before.before.before.before.before.before.args in
+    let a = shaped.before.before.before.before.before.before.args in
     layer_check a.lens a.shape (inputs a.values.now opacities a.depths.now)
-    ≡ refuse_if c.depth-between.result Depth (inside_check a.lens a.depths.now Accepted)
+    ≡ refuse_if c.depth_between.result Depth (inside_check a.lens a.depths.now Accepted)
 unfolding refuse_if
 past-lens c opacities =
     let lensed = c.before in
-    rw (past lensed.before.before opacities, ← lensed.before.lawful-lens.ensures, lensed.if2.false, ← deep c)
+    rw (past lensed.before.before opacities, ← lensed.before.lawful_lens.ensures, lensed.if-not-lawful_lens.false, ← deep c)
 
-value-above-requires : tie.Need-value-above-requires
+value-above-requires : tie.Need-value_above-requires
 value-above-requires c κs = c.before.before.requires.1
 
-returns : tie.Need-returns
+returns : tie.Need-returns-then-value_above
 unfolding layer_check refuse_if
-returns c = λ opacities. rw (← c.before.value-above.ensures, c.if1.true)
+returns c = λ opacities. rw (← c.before.value_above.ensures, c.if-value_above.true)
 
-returns-2 : tie.Need-returns-2
+returns-2 : tie.Need-returns-in_default
 unfolding layer_check refuse_if shape_check
 returns-2 c =
-    let shaped = c.before.before in
+    let shaped = c.before in
     let valued = shaped.before in
     λ opacities. rw (
-      ← valued.before.value-above.ensures,
-      valued.if1.false,
+      ← valued.before.value_above.ensures,
+      valued.if-value_above.false,
       ← shape_read_lem _ _ shaped.shape_of.ensures,
-      c.enum_told.given.1,
+      c.in_default.is,
     )
 
-returns-3 : tie.Need-returns-3
+returns-3 : tie.Need-returns-then-not-lawful_lens
 unfolding refuse_if
 returns-3 c =
-    λ opacities. rw (past c.before.before opacities, ← c.before.lawful-lens.ensures, c.if2.true)
+    λ opacities. rw (past c.before.before opacities, ← c.before.lawful_lens.ensures, c.if-not-lawful_lens.true)
 
-returns-4 : tie.Need-returns-4
+returns-4 : tie.Need-returns-then-depth_between
 unfolding refuse_if
-returns-4 c = λ opacities. rw (past-lens c.before opacities, c.if3.true)
+returns-4 c = λ opacities. rw (past-lens c.before opacities, c.if-depth_between.true)
 
-returns-5 : tie.Need-returns-5
+returns-5 : tie.Need-returns-then-depth_between-2
 unfolding refuse_if
 returns-5 c =
     let scanned = c.before in
     let shallow = scanned.before in
     λ opacities. rw (
       past-lens shallow.before opacities,
-      shallow.if3.false,
-      ← scanned.depth-between2.ensures.0,
-      c.if4.true,
+      shallow.if-depth_between.false,
+      ← scanned.depth_between-2.ensures.0,
+      c.if-depth_between-2.true,
     )
 
-returns-6 : tie.Need-returns-6
+returns-6 : tie.Need-returns
 unfolding refuse_if
 returns-6 c =
     let outside = c.before in
@@ -93,12 +93,12 @@ returns-6 c =
     let known = shallow.before.before.before.before in
     λ opacities. rw (
       past-lens shallow.before opacities,
-      shallow.if3.false,
-      ← outside.before.depth-between2.ensures.0,
-      outside.if4.false,
-      c.layer-of.ensures,
-      ← shape_read_lem _ _ known.before.before.before.shape_of.ensures,
-      known.before.known.given.1,
+      shallow.if-depth_between.false,
+      ← outside.before.depth_between-2.ensures.0,
+      outside.if-depth_between-2.false,
+      c.layer_of.ensures,
+      ← shape_read_lem _ _ known.before.shape_of.ensures,
+      known.in-Known.is,
     )
 
 pub read_inputs_spec : {M : Type 1} → statement M

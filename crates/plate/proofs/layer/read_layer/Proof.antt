@@ -8,25 +8,25 @@ use Rattle.plate.proofs.layer.read_layer.Statement.{statement}
 use Rattle.plate.proofs.layer.read_layer.Tie as tie
 
 -- 1 to 3 passed
-first : (c : tie.After-enum-told)
-    → let a = c.before.before.before.before.before.args in
+first : (c : tie.In_default)
+    → let a = c.before.before.before.before.args in
     fill_lengths a.state a.lent (length a.values.now) a.opacities (length a.depths.now) ≡ Accepted
-first c = sym c.before.before.check-fill.ensures ∙ c.enum_told.given.1
+first c = sym c.before.check_fill-check.ensures ∙ c.in_default.is
 
-returns : tie.Need-returns
+returns : tie.Need-returns-in-Refused
 returns c =
-    let found = c.before in
-    let lengths = sym found.before.before.check-fill.ensures ∙ found.check.given.1 in
+    let found = c in
+    let lengths = sym found.before.check_fill-check.ensures ∙ found.in-Refused.is in
     λ given e. layer_before _ _ _ _ _ _ (rw (← e) at lengths)
 
-read-inputs-requires : tie.Need-read-inputs-requires
+read-inputs-requires : tie.Need-read_inputs-requires
 read-inputs-requires c κs =
     let h = fill_accepted _ _ _ _ _ (first c.before) in (h.lawful, h.values_are, h.depths_are)
 
-returns-2 : tie.Need-returns-2
+returns-2 : tie.Need-returns
 returns-2 c =
     let lengths = first c.before.before in
-    λ given e. c.read-inputs.ensures given ∙ layer_past _ _ _ _ _ (rw (← e) at lengths)
+    λ given e. c.read_inputs.ensures given ∙ layer_past _ _ _ _ _ (rw (← e) at lengths)
 
 pub read_layer_spec : {M : Type 1} → statement M
 read_layer_spec =

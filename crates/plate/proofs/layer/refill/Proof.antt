@@ -6,25 +6,25 @@ use Rattle.plate.proofs.Laws.Filling.Filling.{filled_all}
 use Rattle.plate.proofs.layer.refill.Statement.{statement}
 use Rattle.plate.proofs.layer.refill.Tie as tie
 
-abbrev entry : tie.After-clear-both → tie.Start
+abbrev entry : tie.After-clear_both → tie.Start
 entry c = c.before.before.before.before.before.before.before.before.before
 
-fill-rows-requires : tie.Need-fill-rows-requires
+fill-rows-requires : tie.Need-fill_rows-requires
 fill-rows-requires c κs =
     let shared = c.before.before.before in
     let cleared = shared.before.before.before.before.before in
-    (rw (cleared.Clear-both.ensures.0, length-replicate) (entry cleared).requires, shared.shares.ensures)
+    (rw (cleared.clear_both.ensures.0, length-replicate) (entry cleared).requires, shared.shares-table.ensures)
 
 returns : tie.Need-returns
 returns c =
     let made = c.before.before.before.before.before.before in
     let cleared = made.before.before.before.before.before.before.before.before.before in
-    let done = made.fill-rows.ensures in (
+    let done = made.fill_rows.ensures in (
       c.accepted.ensures,
       record {
-        laid = rw (done.laid, cleared.Clear-both.ensures.0);
+        laid = rw (done.laid, cleared.clear_both.ensures.0);
         stored = filled_all _ _ _ _ _ _ (omega (arith, (entry cleared).requires.pixels_are)) done;
-        emptied = cleared.Clear-both.ensures.1;
+        emptied = cleared.clear_both.ensures.1;
       },
     )
 

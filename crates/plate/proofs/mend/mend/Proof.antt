@@ -10,12 +10,12 @@ use Rattle.plate.proofs.Laws.Mending.Rows.{InRows, still_ready, rows_next, rows_
 use Rattle.plate.proofs.mend.mend.Statement.{statement}
 use Rattle.plate.proofs.mend.mend.Tie as tie
 
-abbrev invariant-loop : tie.invariant-loop
+abbrev invariant-loop : tie.invariant-loop-row
 invariant-loop size change sums₀ values₀ mattes₀ old-share new-share old-reach new-reach first past row₀ sums values mattes row =
     (first ≤ row)
     × MendedWhere size change (InRows size change first row) (canvas sums₀ values₀ mattes₀) (canvas sums values mattes)
 
-abbrev decreases-loop : tie.decreases-loop
+abbrev decreases-loop : tie.decreases-loop-row
 decreases-loop size change sums₀ values₀ mattes₀ old-share new-share old-reach new-reach first past row₀ sums values mattes row =
     past - row
 
@@ -23,7 +23,7 @@ decreases-loop size change sums₀ values₀ mattes₀ old-share new-share old-r
 abbrev start : tie.After-greater invariant-loop decreases-loop → tie.Start invariant-loop decreases-loop
 start c = c.before.before.before.before.before.before.before.before.before.before
 
-abbrev shaped : tie.In-loop invariant-loop decreases-loop → tie.After-cells-around invariant-loop decreases-loop
+abbrev shaped : tie.In-loop-row invariant-loop decreases-loop → tie.After-cells_around-rows invariant-loop decreases-loop
 shaped c = c.before.before
 
 -- the farther of both reaches is the plate's at most
@@ -37,8 +37,8 @@ reaches c =
     let old = s.args.change.old in
     let new = s.args.change.new in
     let most = c.greater.ensures in
-    let first = c.before.before.reach.ensures in
-    let second = c.before.reach2.ensures in (
+    let first = c.before.before.reach-old_reach.ensures in
+    let second = c.before.reach-new_reach.ensures in (
       omega (arith, most, first),
       omega (arith, most, second),
       omega (
@@ -46,78 +46,78 @@ reaches c =
         most,
         first,
         second,
-        reach_under R old.shape old.radius s.pre.change.old_fits.radius_fits,
-        reach_under R new.shape new.radius s.pre.change.new_fits.radius_fits,
-        s.pre.change.lawful.reach_top_fact,
+        reach_under R old.shape old.radius s.requires.change.old_fits.radius_fits,
+        reach_under R new.shape new.radius s.requires.change.new_fits.radius_fits,
+        s.requires.change.lawful.reach_top_fact,
       ),
     )
 
-add-cells-around : tie.Need-overflow-add-cells-around invariant-loop decreases-loop
+add-cells-around : tie.Need-overflow_add-greater invariant-loop decreases-loop
 add-cells-around c = omega (arith, (reaches c).2)
 
-cells-around-requires : tie.Need-cells-around-requires invariant-loop decreases-loop
+cells-around-requires : tie.Need-cells_around-rows-requires invariant-loop decreases-loop
 cells-around-requires c κs =
-    let s = start c in (s.pre.change.row_in, s.pre.change.lawful.height_top, omega (arith, (reaches c).2))
+    let s = start c in (s.requires.change.row_in, s.requires.change.lawful.height_top, omega (arith, (reaches c).2))
 
-loop-holds : tie.Need-loop-init invariant-loop decreases-loop
+loop-holds : tie.Need-loop-row-init invariant-loop decreases-loop
 loop-holds c = (omega arith, mended-none _ _ _ _ (λ i s. omega (arith, s.0, s.1)))
 
 -- a row of the range is one of the plate's
-row_in : (c : tie.In-loop invariant-loop decreases-loop) → c.before.loop.row < (start (shaped c).before).args.size.height
-row_in c = omega (arith, c.loop-test.true, (shaped c).cells-around.ensures.1)
+row_in : (c : tie.In-loop-row invariant-loop decreases-loop) → c.before.loop-row.row < (start (shaped c).before).args.size.height
+row_in c = omega (arith, c.loop-row-test.true, (shaped c).cells-around.ensures.1)
 
-mend-row-requires : tie.Need-mend-row-requires invariant-loop decreases-loop
+mend-row-requires : tie.Need-mend_row-requires invariant-loop decreases-loop
 mend-row-requires c κs =
     let test = c.before.before.before in
     let made = (shaped test).before in
-    let iteration = test.before.loop in (
-      still_ready _ _ _ (start made).pre _ _ iteration.invariant.1,
+    let iteration = test.before.loop-row in (
+      still_ready _ _ _ (start made).requires _ _ iteration.invariant.1,
       (
         record {
-          old-is = made.before.before.before.before.share-of.ensures;
+          old_is = made.before.before.before.before.share-of.ensures;
           new_is = made.before.before.before.share-of2.ensures;
         },
         row_in test,
       ),
     )
 
-add_row : tie.Need-overflow-add-row invariant-loop decreases-loop
+add_row : tie.Need-overflow_step-row invariant-loop decreases-loop
 add_row c =
     let test = c.before.before.before.before.before.before.before.before.before.before in
-    omega (arith, row_in test, (start (shaped test).before).pre.change.lawful.height_top)
+    omega (arith, row_in test, (start (shaped test).before).requires.change.lawful.height_top)
 
-loop-less : tie.Need-loop-smaller invariant-loop decreases-loop
+loop-less : tie.Need-loop-row-smaller invariant-loop decreases-loop
 loop-less c =
     let test = c.before.before.before.before.before.before.before.before.before.before in
-    omega (arith, test.loop-test.true)
+    omega (arith, test.loop-row-test.true)
 
-loop-again : tie.Need-loop-preserved invariant-loop decreases-loop
+loop-again : tie.Need-loop-row-preserved invariant-loop decreases-loop
 loop-again c =
     let made = c.before.before.before.before.before.before in
-    let iteration = made.before.before.before.before.before.loop in (
+    let iteration = made.before.before.before.before.before.loop-row in (
       omega (arith, iteration.invariant.0),
       rows_next _ _ _ iteration.row _ _ _ iteration.invariant.0 iteration.invariant.1
-          made.mend-row.ensures,
+          made.mend_row.ensures,
     )
 
-same_length : tie.Need-same-length invariant-loop decreases-loop
-same_length c = c.before.loop.invariant.1.same_sums
+same_length : tie.Need-shape_of-sums invariant-loop decreases-loop
+same_length c = c.before.loop-row.invariant.1.same_sums
 
-same-length-2 : tie.Need-same-length-2 invariant-loop decreases-loop
-same-length-2 c = c.before.loop.invariant.1.same_values
+same-length-2 : tie.Need-shape_of-values invariant-loop decreases-loop
+same-length-2 c = c.before.loop-row.invariant.1.same_values
 
-same-length-3 : tie.Need-same-length-3 invariant-loop decreases-loop
-same-length-3 c = c.before.loop.invariant.1.same_mattes
+same-length-3 : tie.Need-shape_of-mattes invariant-loop decreases-loop
+same-length-3 c = c.before.loop-row.invariant.1.same_mattes
 
 returns : tie.Need-returns invariant-loop decreases-loop
 returns c =
-    let iteration = c.before.loop in
+    let iteration = c.before.loop-row in
     let shape = c.before.before in
-    let pre = (start shape.before).pre in
+    let pre = (start shape.before).requires in
     let far = reaches shape.before in
     all_mended _ _ _ _ pre.sums_are pre.values_are pre.mattes_are
-    (rows_mended _ _ _ _ _ _ iteration.row _ pre far.0 far.1 shape.cells-around.ensures.0
-    shape.cells-around.ensures.1
+    (rows_mended _ _ _ _ _ _ iteration.row _ pre far.0 far.1 shape.cells_around-rows.ensures.0
+    shape.cells_around-rows.ensures.1
     (omega arith) iteration.invariant.1)
 
 pub mend_spec : {M : Type 1} → statement M

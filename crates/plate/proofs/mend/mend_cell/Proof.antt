@@ -5,39 +5,39 @@ use Rattle.plate.proofs.mend.mend_cell.Statement.{statement}
 use Rattle.plate.proofs.mend.mend_cell.Tie as tie
 
 -- where the call starts, after the old pixel's weight and after the new one's
-abbrev start : tie.After-weight-at → tie.Start
+abbrev start : tie.After-weight_at → tie.Start
 start c = c.before.before.before.before
 
-abbrev weighed : tie.After-weight-at2 → tie.After-weight-at
+abbrev weighed : tie.After-weight_at-2 → tie.After-weight_at
 weighed c = c.before.before
 
-mul-gave : tie.Need-mul-gave
+mul-gave : tie.Need-overflow_mul-gave
 mul-gave c =
     let s = start c.before in
-    rw c.before.weight-at.ensures (omega (arith, matte_small s.args.old s.args.dx s.pre.old_few))
+    rw c.before.weight_at.ensures (omega (arith, matte_small s.args.old s.args.dx s.requires.old_few))
 
-mul-gives : tie.Need-mul-gives
+mul-gives : tie.Need-overflow_mul-gives
 mul-gives c =
     let s = start (weighed c.before) in
-    rw c.before.weight-at2.ensures (omega (arith, matte_small s.args.new s.args.dx s.pre.new_few))
+    rw c.before.weight_at-2.ensures (omega (arith, matte_small s.args.new s.args.dx s.requires.new_few))
 
-mul-mend-sum : tie.Need-mul-mend-sum
+mul-mend-sum : tie.Need-overflow_mul-old
 mul-mend-sum c =
     let first = c.before.before.before.before.before.before in
     let s = start first in
-    rw first.weight-at.ensures (omega (arith, light_small s.args.old s.args.dx s.pre.old_few))
+    rw first.weight_at.ensures (omega (arith, light_small s.args.old s.args.dx s.requires.old_few))
 
-mul-mend-sum-2 : tie.Need-mul-mend-sum-2
+mul-mend-sum-2 : tie.Need-overflow_mul-new
 mul-mend-sum-2 c =
     let second = c.before.before.before.before.before in
     let s = start (weighed second) in
-    rw second.weight-at2.ensures (omega (arith, light_small s.args.new s.args.dx s.pre.new_few))
+    rw second.weight_at-2.ensures (omega (arith, light_small s.args.new s.args.dx s.requires.new_few))
 
-slice-write-sums-2 : tie.Need-slice-write-sums-2
+slice-write-sums-2 : tie.Need-bounds-sums-places-2
 slice-write-sums-2 c =
     let s = c.before.before.before.before.before.before.before.before.before.before.before.before.before in
     omega
-    (arith, length-set s.args.sums.now s.args.place c.before.mend-sum.result, s.pre.place_in, s.pre.sums_are)
+    (arith, length-set s.args.sums.now s.args.place c.before.mend_sum-light.result, s.requires.place_in, s.requires.sums_are)
 
 returns : tie.Need-returns
 returns c =
@@ -46,14 +46,14 @@ returns c =
     let second = light.before.before.before.before.before.before in
     let first = weighed second in
     rw (
-      c.shown-matte.ensures,
-      c.before.shown-value.ensures,
-      matte.mend-sum2.ensures,
-      light.mend-sum.ensures,
-      second.weight-at2.ensures,
+      c.shown_matte.ensures,
+      c.before.shown_value.ensures,
+      matte.mend_sum-matte.ensures,
+      light.mend_sum-light.ensures,
+      second.weight_at-2.ensures,
       first.weight-at.ensures,
     )
-    (record { sums-are = refl; values-are = refl; mattes-are = refl })
+    (record { sums_are = refl; values_are = refl; mattes_are = refl })
 
 pub mend_cell_spec : {M : Type 1} → statement M
 mend_cell_spec =

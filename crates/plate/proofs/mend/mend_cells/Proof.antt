@@ -9,111 +9,111 @@ use Rattle.plate.proofs.Laws.Mending.Rows.{still_ready, cell_ready, column_mende
 use Rattle.plate.proofs.mend.mend_cells.Statement.{statement}
 use Rattle.plate.proofs.mend.mend_cells.Tie as tie
 
-abbrev invariant-loop : tie.invariant-loop
+abbrev invariant-loop : tie.invariant-loop-column
 invariant-loop sums₀ values₀ mattes₀ size change old new row places span first past column₀ sums values mattes column =
     (first ≤ column)
     × (column ≤ first + (past - first))
     × MendedWhere size change (InRange size row first column) (canvas sums₀ values₀ mattes₀) (canvas sums values mattes)
 
-abbrev decreases-loop : tie.decreases-loop
+abbrev decreases-loop : tie.decreases-loop-column
 decreases-loop sums₀ values₀ mattes₀ size change old new row places span first past column₀ sums values mattes column = past - column
 
 -- where the call starts
-abbrev start : tie.After-cells-around invariant-loop decreases-loop → tie.Start invariant-loop decreases-loop
+abbrev start : tie.After-cells_around-columns invariant-loop decreases-loop → tie.Start invariant-loop decreases-loop
 start c = c.before.before.before.before.before.before
 
 -- what is known of the row before the loop
-abbrev shaped : tie.In-loop invariant-loop decreases-loop → tie.After-cells-around invariant-loop decreases-loop
+abbrev shaped : tie.In-loop-column invariant-loop decreases-loop → tie.After-cells_around-columns invariant-loop decreases-loop
 shaped c = c.before.before
 
 -- a column of the range is one of the plate's
-column_in : (c : tie.In-loop invariant-loop decreases-loop) → c.before.loop.column < (start (shaped c)).args.size.width
-column_in c = omega (arith, c.loop-test.true, (shaped c).cells-around.ensures.1)
+column_in : (c : tie.In-loop-column invariant-loop decreases-loop) → c.before.loop-column.column < (start (shaped c)).args.size.width
+column_in c = omega (arith, c.loop-column-test.true, (shaped c).cells-around.ensures.1)
 
 -- and its place is far below 2 ^ 64
-place_in : (c : tie.In-loop invariant-loop decreases-loop) → let a = (start (shaped c)).args in
-    a.row * a.size.width + c.before.loop.column < places_top
+place_in : (c : tie.In-loop-column invariant-loop decreases-loop) → let a = (start (shaped c)).args in
+    a.row * a.size.width + c.before.loop-column.column < places_top
 place_in c =
     let s = start (shaped c) in
     omega (
       arith,
-      place_within c.before.loop.column s.args.row s.args.size.width s.args.size.height (column_in c)
-          s.pre.row_in,
-      s.pre.ready.change.lawful.places_top_fact,
+      place_within c.before.loop-column.column s.args.row s.args.size.width s.args.size.height (column_in c)
+          s.requires.row_in,
+      s.requires.ready.change.lawful.places_top_fact,
     )
 
-mul-places : tie.Need-overflow-mul-places invariant-loop decreases-loop
+mul-places : tie.Need-overflow_mul-places invariant-loop decreases-loop
 mul-places c =
     let pre = c.before.before.before.before.requires in omega (arith, pre.ready.change.lawful.places_top_fact)
 
-cells-around-requires : tie.Need-cells-around-requires invariant-loop decreases-loop
+cells-around-requires : tie.Need-cells_around-columns-requires invariant-loop decreases-loop
 cells-around-requires c κs =
     let s = c.before.before.before.before.before in (
       s.requires.ready.change.column_in,
       s.requires.ready.change.lawful.width_top,
-      omega (arith, c.greater.ensures, span_low _ _ _ _ _ _ s.requires, s.requires.ready.change.lawful.width_top),
+      omega (arith, c.greater-span.ensures, span_low _ _ _ _ _ _ s.requires, s.requires.ready.change.lawful.width_top),
     )
 
-loop-holds : tie.Need-loop-init invariant-loop decreases-loop
+loop-holds : tie.Need-loop-column-init invariant-loop decreases-loop
 loop-holds c = (omega arith, omega arith, mended-none _ _ _ _ (λ i s. omega (arith, s.1, s.2)))
 
-mul-place : tie.Need-overflow-mul-place invariant-loop decreases-loop
+mul-place : tie.Need-overflow_mul-place invariant-loop decreases-loop
 mul-place c = omega (arith, place_in c.before)
 
-add-place : tie.Need-overflow-add-place invariant-loop decreases-loop
+add-place : tie.Need-overflow_add-place invariant-loop decreases-loop
 add-place c = omega (arith, place_in c.before)
 
-mend-cell-requires : tie.Need-mend-cell-requires invariant-loop decreases-loop
+mend-cell-requires : tie.Need-mend_cell-requires invariant-loop decreases-loop
 mend-cell-requires c κs =
     let test = c.before.before.before.before.before in
-    let iteration = test.before.loop in
+    let iteration = test.before.loop-column in
     let s = start (shaped test) in
-    cell_ready _ _ _ (still_ready _ _ _ s.pre.ready _ _ iteration.invariant.2) s.args.row s.pre.row_in _ _
-    s.pre.old_is s.pre.new_is
+    cell_ready _ _ _ (still_ready _ _ _ s.requires.ready _ _ iteration.invariant.2) s.args.row s.requires.row_in _ _
+    s.requires.old_is s.requires.new_is
     iteration.column (column_in test)
 
-add-column : tie.Need-overflow-add-column invariant-loop decreases-loop
+add-column : tie.Need-overflow_step-column invariant-loop decreases-loop
 add-column c =
     let test = c.before.before.before.before.before.before.before.before.before.before.before.before in
-    omega (arith, column_in test, (start (shaped test)).pre.ready.change.lawful.width_top)
+    omega (arith, column_in test, (start (shaped test)).requires.ready.change.lawful.width_top)
 
-loop-less : tie.Need-loop-smaller invariant-loop decreases-loop
+loop-less : tie.Need-loop-column-smaller invariant-loop decreases-loop
 loop-less c =
     let test = c.before.before.before.before.before.before.before.before.before.before.before.before in
-    omega (arith, test.loop-test.true)
+    omega (arith, test.loop-column-test.true)
 
-loop-again : tie.Need-loop-preserved invariant-loop decreases-loop
+loop-again : tie.Need-loop-column-preserved invariant-loop decreases-loop
 loop-again c =
     let made = c.before.before.before.before.before.before in
     let test = made.before.before.before.before.before.before in
-    let iteration = test.before.loop in
+    let iteration = test.before.loop-column in
     let s = start (shaped test) in
-    let done = rw made.before.before.before.before.distance.ensures at made.mend-cell.ensures in (
+    let done = rw made.before.before.before.before.distance-dx.ensures at made.mend_cell.ensures in (
       omega (arith, iteration.invariant.0),
-      omega (arith, iteration.invariant.1, test.loop-test.true),
+      omega (arith, iteration.invariant.1, test.loop-column-test.true),
       range_next _ _ s.args.row _ iteration.column _ _ _ (column_in test) iteration.invariant.0 iteration.invariant.2
-          (column_mended _ _ _ (still_ready _ _ _ s.pre.ready _ _ iteration.invariant.2) s.args.row s.pre.row_in _ _
-          s.pre.old_is s.pre.new_is
+          (column_mended _ _ _ (still_ready _ _ _ s.requires.ready _ _ iteration.invariant.2) s.args.row s.requires.row_in _ _
+          s.requires.old_is s.requires.new_is
           iteration.column _ (column_in test) done),
     )
 
-same_length : tie.Need-same-length invariant-loop decreases-loop
-same_length c = c.before.loop.invariant.2.same_sums
+same_length : tie.Need-shape_of-sums invariant-loop decreases-loop
+same_length c = c.before.loop-column.invariant.2.same_sums
 
-same-length-2 : tie.Need-same-length-2 invariant-loop decreases-loop
-same-length-2 c = c.before.loop.invariant.2.same_values
+same-length-2 : tie.Need-shape_of-values invariant-loop decreases-loop
+same-length-2 c = c.before.loop-column.invariant.2.same_values
 
-same-length-3 : tie.Need-same-length-3 invariant-loop decreases-loop
-same-length-3 c = c.before.loop.invariant.2.same_mattes
+same-length-3 : tie.Need-shape_of-mattes invariant-loop decreases-loop
+same-length-3 c = c.before.loop-column.invariant.2.same_mattes
 
 returns : tie.Need-returns invariant-loop decreases-loop
 returns c =
-    let iteration = c.before.loop in
+    let iteration = c.before.loop-column in
     let made = c.before.before in
     let s = start made in
-    row-mended _ _ _ s.pre.ready s.args.row s.pre.row_in _ _ s.pre.old_is s.pre.new_is _ _
-    iteration.column _ _ made.before.greater.ensures
-    made.cells-around.ensures.0 made.cells-around.ensures.1 (omega arith) iteration.invariant.1 iteration.invariant.2
+    row-mended _ _ _ s.requires.ready s.args.row s.requires.row_in _ _ s.requires.old_is s.requires.new_is _ _
+    iteration.column _ _ made.before.greater-span.ensures
+    made.cells_around-columns.ensures.0 made.cells_around-columns.ensures.1 (omega arith) iteration.invariant.1 iteration.invariant.2
 
 pub mend_cells_spec : {M : Type 1} → statement M
 mend_cells_spec =

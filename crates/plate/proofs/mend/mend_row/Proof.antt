@@ -6,31 +6,31 @@ use Rattle.plate.proofs.mend.mend_row.Statement.{statement}
 use Rattle.plate.proofs.mend.mend_row.Tie as tie
 
 -- where the call starts, and what both pixels give the row
-abbrev start : tie.After-given-row2 → tie.Start
+abbrev start : tie.After-given_row-new → tie.Start
 start c = c.before.before.before.before.before.before
 
-row-ready : (c : tie.After-given-row2) → let a = (start c).args in
-    RowToMend a.size a.change a.row c.before.given-row.result c.given-row2.result
+row-ready : (c : tie.After-given_row-new) → let a = (start c).args in
+    RowToMend a.size a.change a.row c.before.given_row-old.result c.given_row-new.result
     (canvas a.sums.now a.values.now a.mattes.now)
 row-ready c =
     let pre = (start c).requires in
-    let far = c.before.before.distance.ensures in
+    let far = c.before.before.distance-dy.ensures in
     record {
       ready = pre.0;
       row_in = pre.1.1;
-      old-is = rw (← far) c.before.given-row.ensures;
-      new_is = rw (← far) c.given-row2.ensures;
+      old_is = rw (← far) c.before.given_row-old.ensures;
+      new_is = rw (← far) c.given_row-new.ensures;
     }
 
-mend-runs-requires : tie.Need-mend-runs-requires
+mend-runs-requires : tie.Need-mend_runs-requires
 mend-runs-requires c κs =
     let second = c.before.before.before in
     let first = second.before.before in (
       row-ready first.before.before,
-      (sym first.before.is-level.ensures ∙ first.if1.true, sym second.before.is-level2.ensures ∙ second.if2.true),
+      (sym first.before.is_level.ensures ∙ first.if-is_level.true, sym second.before.is_level-then-is_level.ensures ∙ second.if-is_level-2.true),
     )
 
-mend-cells-requires : tie.Need-mend-cells-requires
+mend-cells-requires : tie.Need-mend_cells-requires
 mend-cells-requires c κs = row-ready c.before.before.before.before.before
 
 pub mend_row_spec : {M : Type 1} → statement M

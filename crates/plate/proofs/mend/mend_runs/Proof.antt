@@ -20,75 +20,75 @@ places-low s = s.requires.0.ready.change.lawful.places_top_fact
 row_low : (s : tie.Start) → let a = s.args in a.row * a.size.width + a.size.width ≤ a.size.width * a.size.height
 row_low s = let a = s.args in row_in a.row a.size.width a.size.height s.requires.0.row_in
 
-mul-start : tie.Need-overflow-mul-start
+mul-start : tie.Need-overflow_mul-start
 mul-start c = let s = c.before.before.before.before in omega (arith, row_low s, places-low s)
 
-cells-around-requires : tie.Need-cells-around-requires
+cells-around-requires : tie.Need-cells_around-old_run-requires
 cells-around-requires c κs =
     let s = c.before.before.before.before in
     let r = s.requires.0 in
     (r.ready.change.column_in, r.ready.change.lawful.width_top, omega (arith, (span_low _ _ _ _ _ _ r).0))
 
-cells-around-requires-2 : tie.Need-cells-around-requires-2
+cells-around-requires-2 : tie.Need-cells_around-new_run-requires
 cells-around-requires-2 c κs =
     let s = c.before.before.before.before.before in
     let r = s.requires.0 in
     (r.ready.change.column_in, r.ready.change.lawful.width_top, omega (arith, (span_low _ _ _ _ _ _ r).1))
 
-level-amounts-requires : tie.Need-level-amounts-requires
+level-amounts-requires : tie.Need-level_amounts-requires
 level-amounts-requires c κs =
     let s = c.before.before.before.before.before.before.before in
     gives_few _ _ _ _ s.requires.0.ready.change.old_fits s.requires.0.old_is
 
-give-run-requires : tie.Need-give-run-requires
+give-run-requires : tie.Need-give_run-requires
 give-run-requires c κs =
     let s = c.before.before.before.before.before.before.before.before.before in
-    run_in _ _ _ _ _ _ s.requires.0 _ _ c.before.before.before.before.cells-around.ensures _ s.requires.0.ready.sums_are
+    run_in _ _ _ _ _ _ s.requires.0 _ _ c.before.before.before.before.cells_around-old_run.ensures _ s.requires.0.ready.sums_are
 
-level-amounts-requires-2 : tie.Need-level-amounts-requires-2
+level-amounts-requires-2 : tie.Need-level_amounts-requires-2
 level-amounts-requires-2 c κs =
     let s = c.before.before.before.before.before.before.before.before.before.before.before.before.before in
     gives_few _ _ _ _ s.requires.0.ready.change.new_fits s.requires.0.New-is
 
-give-run-requires-2 : tie.Need-give-run-requires-2
+give-run-requires-2 : tie.Need-give_run-requires-2
 give-run-requires-2 c κs =
     let s = c.before.before.before.before.before.before.before.before.before.before.before.before.before.before in
     run_in _ _ _ _ _ _ s.requires.0 _ _
-    c.before.before.before.before.before.before.before.before.cells-around2.ensures _
-    (c.before.before.before.before.give-run.ensures.same ∙ s.requires.0.ready.sums_are)
+    c.before.before.before.before.before.before.before.before.cells_around-new_run.ensures _
+    (c.before.before.before.before.give_run.ensures.same ∙ s.requires.0.ready.sums_are)
 
-cells-around-requires-3 : tie.Need-cells-around-requires-3
+cells-around-requires-3 : tie.Need-cells_around-columns-requires
 cells-around-requires-3 c κs =
     let given = c.before.before.before.before.before.before.before.before.before in
     let s = given.before.before.before.before.before.before.before.before.before in
     let r = s.requires.0 in
     let low = span_low _ _ _ _ _ _ r in
-    (r.ready.change.column_in, r.ready.change.lawful.width_top, omega (arith, c.greater.ensures, low.0, low.1))
+    (r.ready.change.column_in, r.ready.change.lawful.width_top, omega (arith, c.greater-span.ensures, low.0, low.1))
 
 -- where the wider range is made, and the call's start
-abbrev start : tie.After-cells-around3 → tie.Start
+abbrev start : tie.After-cells_around-columns → tie.Start
 start c =
     let given = c.before.before.before.before.before.before.before.before.before.before in
     given.before.before.before.before.before.before.before.before.before
 
 -- the wider range lies in the row
-wide-in : (c : tie.After-cells-around3) → let a = (start c).args in
-    let s = c.cells-around3.result in
+wide-in : (c : tie.After-cells_around-columns) → let a = (start c).args in
+    let s = c.cells_around-columns.result in
     (a.row * a.size.width + s.first ≤ a.size.width * a.size.height)
     × (a.row * a.size.width + s.past ≤ a.size.width * a.size.height)
 wide-in c =
     let s = start c in
-    let e = c.cells-around3.ensures in
-    (omega (arith, e.0, s.pre.0.ready.change.column_in, row_low s), omega (arith, e.1, row_low s))
+    let e = c.cells_around-columns.ensures in
+    (omega (arith, e.0, s.requires.0.ready.change.column_in, row_low s), omega (arith, e.1, row_low s))
 
-add-first : tie.Need-overflow-add-first
+add-first : tie.Need-overflow_add-first
 add-first c = let made = c.before in omega (arith, (wide-in made).0, places-low (start made))
 
-add-round-row : tie.Need-overflow-add-round-row
+add-round-row : tie.Need-overflow_add-places
 add-round-row c =
     let made = c.before.before.before.before.before in omega (arith, (wide-in made).0, places-low (start made))
 
-round-row-requires : tie.Need-round-row-requires
+round-row-requires : tie.Need-round_row-requires
 round-row-requires c κs =
     let made = c.before.before.before.before.before in
     let s = start made in
@@ -97,10 +97,10 @@ round-row-requires c κs =
     let one = made.before.before.before.before.give-run2.ensures.same in
     let two = made.before.before.before.before.before.before.before.before.before.give-run.ensures.same in
     record {
-      values-in = omega (arith, w.0, w.1, count, s.pre.0.ready.values_are);
-      mattes-in = omega (arith, w.0, w.1, count, s.pre.0.ready.mattes_are);
-      light-in = omega (arith, w.0, w.1, count, one, two, s.pre.0.ready.sums_are);
-      matte-in = omega (arith, w.0, w.1, count, one, two, s.pre.0.ready.sums_are);
+      values_in = omega (arith, w.0, w.1, count, s.requires.0.ready.values_are);
+      mattes_in = omega (arith, w.0, w.1, count, s.requires.0.ready.mattes_are);
+      light_in = omega (arith, w.0, w.1, count, one, two, s.requires.0.ready.sums_are);
+      matte_in = omega (arith, w.0, w.1, count, one, two, s.requires.0.ready.sums_are);
     }
 
 returns : tie.Need-returns
@@ -129,12 +129,12 @@ returns c =
     new.give-run2.ensures in
     let shown : RowShown new.give-run2.new.0 (from + wide.result.first) (n + (from + wide.result.first))
     (from + wide.result.first)
-    (wide.result.past - wide.result.first) a.values.now seen.round-row.new.0 a.mattes.now
-    seen.round-row.new.1.0 =
-    rw (← count) seen.round-row.ensures in
+    (wide.result.past - wide.result.first) a.values.now seen.round_row.new.0 a.mattes.now
+    seen.round_row.new.1.0 =
+    rw (← count) seen.round_row.ensures in
     runs_mended a.size a.change a.row a.old a.new (canvas a.sums.now a.values.now a.mattes.now)
-    s.pre.0
-    s.pre.1.0 s.pre.1.1 first.result second.result wide.result _ made.before.greater.ensures
+    s.requires.0
+    s.requires.1.0 s.requires.1.1 first.result second.result wide.result _ made.before.greater.ensures
     first.ensures
     second.ensures wide.ensures _ _ _ _ taken given shown
 

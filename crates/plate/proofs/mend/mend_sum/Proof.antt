@@ -6,7 +6,7 @@ use Rattle.plate.proofs.mend.mend_sum.Tie as tie
 
 returns : tie.Need-returns
 unfolding minus
-returns c = omega (arith, c.wrapping-add-u64.ensures, c.before.wrapping-sub-u64.ensures)
+returns c = omega (arith, c.wrapping_add_u64.ensures, c.before.wrapping_sub_u64.ensures)
 
 pub mend_sum_spec : {M : Type 1} → statement M
 mend_sum_spec = tie.close (tie.spec (λ c κs. search rules) (λ c κs. search rules) returns)

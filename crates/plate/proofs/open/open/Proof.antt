@@ -4,13 +4,13 @@ use Rattle.plate_model.specs.Calls.{open_call, open_by}
 use Rattle.plate.proofs.open.open.Statement.{statement}
 use Rattle.plate.proofs.open.open.Tie as tie
 
-returns : tie.Need-returns
+returns : tie.Need-returns-in-Refused
 unfolding open_call open_by
 returns c =
-    let found = c.before.before.before in
-    rw (c.refused.ensures, c.before.state-of.ensures, ← found.before.before.check-open.ensures, found.check.given.1)
+    let found = c.before.before in
+    rw (c.refused.ensures, c.before.state_of.ensures, ← found.before.check_open-check.ensures, found.in-Refused.is)
 
-returns-2 : tie.Need-returns-2
+returns-2 : tie.Need-returns
 unfolding open_call open_by
 returns-2 c =
     let logged = c.before.before.before in
@@ -19,11 +19,11 @@ returns-2 c =
     let told = laid.before.before in
     rw (
       c.accepted.ensures,
-      ← told.before.before.check-open.ensures,
-      told.enum_told.given.1,
+      ← told.before.check_open-check.ensures,
+      told.in_default.is,
       laid.clear.ensures,
-      stored.clear2.ensures,
-      logged.clear3.ensures,
+      stored.clear-2.ensures,
+      logged.clear-3.ensures,
     )
 
 pub open_spec : {M : Type 1} → statement M

@@ -5,7 +5,7 @@ use Rattle.plate.proofs.put.asked.Statement.{statement}
 use Rattle.plate.proofs.put.asked.Tie as tie
 
 returns : tie.Need-returns
-returns c = rw (shape_read_lem _ _ c.shape_of.ensures)
+returns c = rw (shape_read_lem _ _ c.shape_of-read.ensures)
 
 pub asked_spec : {M : Type 1} → statement M
 asked_spec = tie.close (tie.spec (λ c κs. search rules) returns)

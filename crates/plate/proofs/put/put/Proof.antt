@@ -6,7 +6,7 @@ use Rattle.plate.proofs.put.put.Tie as tie
 returns : tie.Need-returns
 returns c =
     let made = c.before.before.before.before.before.before in
-    rw (← made.before.before.before.before.asked.ensures) made.put-asked.ensures
+    rw (← made.before.before.before.before.asked-arguments.ensures) made.put_asked.ensures
 
 pub put_spec : {M : Type 1} → statement M
 put_spec =

@@ -9,35 +9,35 @@ use Rattle.plate.proofs.put.put_asked.Statement.{statement}
 use Rattle.plate.proofs.put.put_asked.Tie as tie
 
 -- where the call starts, and what it is lent
-abbrev start : tie.After-read-put → tie.Start
+abbrev start : tie.After-read_put → tie.Start
 start c = c.before.before.before.before.before
 
 abbrev held : tie.Start → Lent
 held s = lent s.args.planes.now s.args.pixels.now s.args.log.now
 
 -- the change that was read
-reads : (c : tie.After-change)
-    → let s = start c.before.before in
-    put_read s.args.state s.args.ask (lengths_of (held s)) (held s).pixels ≡ ToChange c.change.given.0.0
-reads c = sym c.before.before.read-put.ensures ∙ c.change.given.1
+reads : (c : tie.In-ToChange)
+    → let s = start c.before in
+    put_read s.args.state s.args.ask (lengths_of (held s)) (held s).pixels ≡ ToChange c.in-ToChange.given.0.0
+reads c = sym c.before.read_put.ensures ∙ c.in-ToChange.is
 
-log-and-exchange-requires : tie.Need-log-and-exchange-requires
+log-and-exchange-requires : tie.Need-log_and_exchange-requires
 log-and-exchange-requires c κs =
-    let change = c.before.before.before.before in
-    put_ready _ _ _ (omega (arith, (start change.before.before).well-formed)) _ (reads change)
+    let change = c.before.before.before in
+    put_ready _ _ _ (omega (arith, (start change.before).well_formed)) _ (reads change)
 
-returns : tie.Need-returns
+returns : tie.Need-returns-in-ToChange
 unfolding put_call
 returns c =
     let made = c.before.before.before.before.before.before in
-    let change = made.before.before.before.before.before in
-    rw (reads change) made.log-and-exchange.ensures
+    let change = made.before.before.before.before in
+    rw (reads change) made.log_and_exchange.ensures
 
-returns-2 : tie.Need-returns-2
+returns-2 : tie.Need-returns-in-NoChange
 unfolding put_call put_by
 returns-2 c =
-    let told = c.before.before in
-    rw (c.refused.ensures, ← told.before.before.read-put.ensures, told.why.given.1)
+    let told = c.before in
+    rw (c.refused.ensures, ← told.before.read_put.ensures, told.in-NoChange.is)
 
 pub put_asked_spec : {M : Type 1} → statement M
 put_asked_spec =

@@ -7,11 +7,11 @@ use Rattle.plate_model.proofs.Checks.Conditions.{true-not}
 use Rattle.plate.proofs.scan.depth_between.Statement.{statement}
 use Rattle.plate.proofs.scan.depth_between.Tie as tie
 
-abbrev invariant-loop : tie.invariant-loop
+abbrev invariant-loop : tie.invariant-loop-x
 invariant-loop depths size above most found₀ y start x₀ y-end x-end found x =
     (x ≤ x-end) × (found ≡ false) × NoneTo (is_between above most) depths (start + x) × SmallTo depths (start + x)
 
-abbrev decreases-loop : tie.decreases-loop
+abbrev decreases-loop : tie.decreases-loop-x
 decreases-loop depths size above most found₀ y start x₀ y-end x-end found x = x-end - x
 
 abbrev invariant-rows : tie.invariant-rows
@@ -33,40 +33,40 @@ row c =
 rows-holds : tie.Need-rows-init invariant-loop decreases-loop invariant-rows decreases-rows
 rows-holds c = (search rules, refl, (λ i l. absurd (omega arith)), λ i l. absurd (omega arith))
 
-mul-start : tie.Need-overflow-mul-start invariant-loop decreases-loop invariant-rows decreases-rows
+mul-start : tie.Need-overflow_mul-start invariant-loop decreases-loop invariant-rows decreases-rows
 mul-start c = omega (arith, row c.before)
 
-loop-holds : tie.Need-loop-init invariant-loop decreases-loop invariant-rows decreases-rows
+loop-holds : tie.Need-loop-x-init invariant-loop decreases-loop invariant-rows decreases-rows
 loop-holds c =
     let iteration = c.before.before.rows.invariant in
     (search rules, iteration.1, (λ i l. iteration.2 i (omega arith)), λ i l. iteration.3 i (omega arith))
 
-add-lies-between : tie.Need-overflow-add-lies-between invariant-loop decreases-loop invariant-rows decreases-rows
+add-lies-between : tie.Need-overflow_add-start invariant-loop decreases-loop invariant-rows decreases-rows
 add-lies-between c = omega (arith, row c.before.before.before)
 
-mul-lies-between : tie.Need-overflow-mul-lies-between invariant-loop decreases-loop invariant-rows decreases-rows
+mul-lies-between : tie.Need-offset_bounds-depths-start invariant-loop decreases-loop invariant-rows decreases-rows
 mul-lies-between c = omega (arith, row c.before.before.before)
 
-shared-slice-read-lies-between : tie.Need-shared-slice-read-lies-between invariant-loop decreases-loop invariant-rows decreases-rows
+shared-slice-read-lies-between : tie.Need-bounds-depths-start invariant-loop decreases-loop invariant-rows decreases-rows
 shared-slice-read-lies-between c = omega (arith, row c.before.before.before.before)
 
-loop-again : tie.Need-loop-preserved invariant-loop decreases-loop invariant-rows decreases-rows
+loop-again : tie.Need-loop-x-preserved invariant-loop decreases-loop invariant-rows decreases-rows
 loop-again c =
     let asked = c.before in
-    let told = asked.lies-between.ensures in
-    let iteration = asked.before.before.before.loop.invariant in (
+    let told = asked.lies_between.ensures in
+    let iteration = asked.before.before.before.loop-x.invariant in (
       omega arith,
       iteration.1,
-      (λ i l. below_more _ _ iteration.2 (sym told.0 ∙ c.if1.false) i (omega arith)),
+      (λ i l. below_more _ _ iteration.2 (sym told.0 ∙ c.if-lies_between.false) i (omega arith)),
       λ i l. below_more _ _ iteration.3 told.1 i (omega arith),
     )
 
 rows-again : tie.Need-rows-preserved invariant-loop decreases-loop invariant-rows decreases-rows
 rows-again c =
-    let iteration = c.before.loop.invariant in
+    let iteration = c.before.loop-x.invariant in
     (omega arith, iteration.1, (λ i l. iteration.2 i (omega arith)), λ i l. iteration.3 i (omega arith))
 
-returns : tie.Need-returns invariant-loop decreases-loop invariant-rows decreases-rows
+returns : tie.Need-returns-after-rows invariant-loop decreases-loop invariant-rows decreases-rows
 returns c =
     let iteration = c.before.rows in
     let start = c.before.before.before in
@@ -79,7 +79,7 @@ returns c =
       λ e. small_all a.depths.now z.width z.height iteration.y start.requires c.rows-test.false iteration.invariant.3,
     )
 
-returns-2 : tie.Need-returns-2 invariant-loop decreases-loop invariant-rows decreases-rows
+returns-2 : tie.Need-returns-then-lies_between invariant-loop decreases-loop invariant-rows decreases-rows
 returns-2 c =
     let asked = c.before in
     let iteration = asked.before.before in
@@ -88,12 +88,12 @@ returns-2 c =
     let a = start.args in
     let z = a.size in (
       sym
-          (one_found (is_between a.above a.most) _ z.width z.height iteration.before.loop.x
+          (one_found (is_between a.above a.most) _ z.width z.height iteration.before.loop-x.x
           rows.before.rows.y
           start.requires
-          iteration.loop-test.true
+          iteration.loop-x-test.true
           rows.rows-test.true
-          (sym asked.lies-between.ensures.0 ∙ c.if1.true)),
+          (sym asked.lies_between.ensures.0 ∙ c.if-lies_between.true)),
       λ e. true-not e,
     )
 

@@ -5,11 +5,11 @@ use Rattle.plate_model.proofs.Checks.Conditions.{tests}
 use Rattle.plate.proofs.scan.lies_between.Statement.{statement}
 use Rattle.plate.proofs.scan.lies_between.Tie as tie
 
-returns : tie.Need-returns
+returns : tie.Need-returns-then-depth-above
 unfolding is_between
 returns c = (search tests, omega arith)
 
-returns-2 : tie.Need-returns-2
+returns-2 : tie.Need-returns
 unfolding is_between
 returns-2 c = (search tests, omega arith)
 

@@ -6,11 +6,11 @@ use Rattle.plate.proofs.scan.value_above.Statement.{statement}
 use Rattle.plate.proofs.scan.value_above.Tie as tie
 use Rattle.kernels_model.specs.Fixed.{value_top}
 
-abbrev invariant-loop : tie.invariant-loop
+abbrev invariant-loop : tie.invariant-loop-x
 invariant-loop values size found₀ y start x₀ y-end x-end found x =
     (x ≤ x-end) × (found ≡ false) × NoneTo (ltb value_top) values (start + x)
 
-abbrev decreases-loop : tie.decreases-loop
+abbrev decreases-loop : tie.decreases-loop-x
 decreases-loop values size found₀ y start x₀ y-end x-end found x = x-end - x
 
 abbrev invariant-rows : tie.invariant-rows
@@ -30,33 +30,33 @@ row c =
 rows-holds : tie.Need-rows-init invariant-loop decreases-loop invariant-rows decreases-rows
 rows-holds c = (search rules, refl, λ i l. absurd (omega arith))
 
-mul-start : tie.Need-overflow-mul-start invariant-loop decreases-loop invariant-rows decreases-rows
+mul-start : tie.Need-overflow_mul-start invariant-loop decreases-loop invariant-rows decreases-rows
 mul-start c = omega (arith, row c.before)
 
-loop-holds : tie.Need-loop-init invariant-loop decreases-loop invariant-rows decreases-rows
+loop-holds : tie.Need-loop-x-init invariant-loop decreases-loop invariant-rows decreases-rows
 loop-holds c =
     (search rules, c.before.before.rows.invariant.1, λ i l. c.before.before.rows.invariant.2 i (omega arith))
 
-add-if1 : tie.Need-overflow-add-if1 invariant-loop decreases-loop invariant-rows decreases-rows
+add-if1 : tie.Need-overflow_add-start invariant-loop decreases-loop invariant-rows decreases-rows
 add-if1 c = omega (arith, row c.before.before.before)
 
-mul-if1 : tie.Need-overflow-mul-if1 invariant-loop decreases-loop invariant-rows decreases-rows
+mul-if1 : tie.Need-offset_bounds-values-start invariant-loop decreases-loop invariant-rows decreases-rows
 mul-if1 c = omega (arith, row c.before.before.before)
 
-shared-slice-read-if1 : tie.Need-shared-slice-read-if1 invariant-loop decreases-loop invariant-rows decreases-rows
+shared-slice-read-if1 : tie.Need-bounds-values-start invariant-loop decreases-loop invariant-rows decreases-rows
 shared-slice-read-if1 c = omega (arith, row c.before.before.before.before)
 
-loop-again : tie.Need-loop-preserved invariant-loop decreases-loop invariant-rows decreases-rows
+loop-again : tie.Need-loop-x-preserved invariant-loop decreases-loop invariant-rows decreases-rows
 loop-again c =
-    let iteration = c.before.before.before.loop in
-    (omega arith, iteration.invariant.1, λ i l. below_more _ _ iteration.invariant.2 (le-ltb _ _ c.if1.false) i (omega arith))
+    let iteration = c.before.before.before.loop-x in
+    (omega arith, iteration.invariant.1, λ i l. below_more _ _ iteration.invariant.2 (le-ltb _ _ c.if-values-start-gt-VALUE_TOP.false) i (omega arith))
 
 rows-again : tie.Need-rows-preserved invariant-loop decreases-loop invariant-rows decreases-rows
 rows-again c =
-    let iteration = c.before.loop in
+    let iteration = c.before.loop-x in
     (omega arith, iteration.invariant.1, λ i l. iteration.invariant.2 i (omega arith))
 
-returns : tie.Need-returns invariant-loop decreases-loop invariant-rows decreases-rows
+returns : tie.Need-returns-after-rows invariant-loop decreases-loop invariant-rows decreases-rows
 returns c =
     let iteration = c.before.rows in
     let start = c.before.before in
@@ -65,17 +65,17 @@ returns c =
     ∙ sym
     (none_found (ltb value_top) _ z.width z.height iteration.y start.requires c.rows-test.false iteration.invariant.2)
 
-returns-2 : tie.Need-returns-2 invariant-loop decreases-loop invariant-rows decreases-rows
+returns-2 : tie.Need-returns-then-values-start-gt-VALUE_TOP invariant-loop decreases-loop invariant-rows decreases-rows
 returns-2 c =
     let iteration = c.before.before in
     let rows = iteration.before.before.before in
     let start = rows.before.before in
     let z = start.args.size in
-    sym (one_found (ltb value_top) _ z.width z.height iteration.before.loop.x rows.before.rows.y
+    sym (one_found (ltb value_top) _ z.width z.height iteration.before.loop-x.x rows.before.rows.y
     start.requires
-    iteration.loop-test.true
+    iteration.loop-x-test.true
     rows.rows-test.true
-    (lt-ltb _ _ c.if1.true))
+    (lt-ltb _ _ c.if-values-start-gt-VALUE_TOP.true))
 
 pub value_above_spec : {M : Type 1} → statement M
 value_above_spec =

@@ -7,29 +7,29 @@ use Rattle.plate.proofs.Laws.Showing.Image.{show_ready}
 use Rattle.plate.proofs.show.show.Statement.{statement}
 use Rattle.plate.proofs.show.show.Tie as tie
 
-abbrev start : tie.After-enum-told → tie.Start
-start c = c.before.before.before.before.before.before.before
+abbrev start : tie.In-Accepted → tie.Start
+start c = c.before.before.before.before.before.before
 
 -- the check passed
-passed : (c : tie.After-enum-told)
+passed : (c : tie.In-Accepted)
     → let a = (start c).args in
     show_check a.state (length a.planes.now) (length a.scratch.now) (length a.values.now)
     (length a.mattes.now)
     ≡ Accepted
-passed c = sym c.before.before.check-show.ensures ∙ c.enum_told.given.1
+passed c = sym c.before.check_show-outcome.ensures ∙ c.in-Accepted.is
 
-returns : tie.Need-returns
+returns : tie.Need-returns-in_default
 unfolding show_call show_by
-returns c = let told = c.enum-told2.given.1 in rw (told, sym c.before.before.check-show.ensures ∙ told)
+returns c = let told = c.in_default.is in rw (told, sym c.before.check_show-outcome.ensures ∙ told)
 
-show-all-requires : tie.Need-show-all-requires
+show-all-requires : tie.Need-show_all-requires
 show-all-requires c κs = show_ready _ _ _ _ _ (passed c.before.before.before)
 
-returns-2 : tie.Need-returns-2
+returns-2 : tie.Need-returns
 unfolding show_call
 returns-2 c =
     let done = c.before.before.before.before.before.before in
-    done.show-all.ensures ∙ rw (passed done.before.before.before.before)
+    done.show_all.ensures ∙ rw (passed done.before.before.before.before)
 
 pub show_spec : {M : Type 1} → statement M
 show_spec =

@@ -1,46 +1,68 @@
--- `show::show_all` meets its contract: the pictures are rounded from the kept sums, and the scratch is cleared at the end.
-use Rattle.std.proofs.Common.{arith, rules}
-use Rattle.plate.proofs.Laws.Showing.Image.{kept_room, all_shown}
+-- `show::show_all` meets its contract: the rows of the image show the finished sums, and the scratch is cleared at the end.
+use Rattle.std.proofs.Common.{ap, arith, rules}
+use Rattle.plate.specs.Passes.{Channel}
+use Rattle.plate.specs.Showing.{BothIn}
+use Rattle.plate.proofs.Laws.Showing.BothChannels.{both_on}
+use Rattle.plate.proofs.Laws.Showing.Image.{ready_both, all_shown}
 use Rattle.plate.proofs.show.show_all.Statement.{statement}
 use Rattle.plate.proofs.show.show_all.Tie as tie
 
-abbrev start : tie.After-keep-both → tie.Start
-start c = c.before.before.before.before.before.before.before.before
+abbrev start : tie.After-light_channel-light → tie.Start
+start c = c.before.before.before.before.before.before
 
-mul-places : tie.Need-overflow-mul-places
-mul-places c = let start = c.before.before.before.before.before.before in omega (arith, start.requires.values_are, start.well-formed)
+fits : (c : tie.After-light_channel-light)
+    → BothIn c.light_channel-light.result (start c).args.scratch.now (start c).args.planes.now
+fits c = ready_both _ _ _ _ c.light_channel-light.ensures (start c).requires.sums
 
-keep-both-requires : tie.Need-keep-both-requires
-keep-both-requires c κs = c.before.before.before.before.before.before.before.requires.sums
+light-channel-requires : tie.Need-light_channel-light-requires
+light-channel-requires c κs = c.before.before.before.before.before.requires.sums.lawful
 
-round-row-requires : tie.Need-round-row-requires
-round-row-requires c κs =
-    let kept = c.before.before.before.before.before in
-    let ready = (start kept).requires in
-    let room = kept_room _ _ _ ready.sums in
-    let same = kept.keep-both.ensures.same in
+add-t9 : tie.Need-overflow_add-image
+add-t9 c = omega (arith, (start c.before).requires.sums.lawful.reach_top_fact)
+
+sum-above-requires : tie.Need-sum_above-requires
+sum-above-requires c κs =
+    let made = c.before.before in
+    let high = ap (λ (p : Channel). p.high) made.light_channel-light.ensures in
+    record { fits = fits made; low = omega (arith, high, (start made).requires) }
+
+show-rows-requires : tie.Need-show_rows-requires
+show-rows-requires c κs =
+    let summed = c.before.before.before.before.before in
+    let made = summed.before.before.before in
+    let columns = ap (λ (p : Channel). p.columns) made.light_channel-light.ensures in
+    let high = ap (λ (p : Channel). p.high) made.light_channel-light.ensures in
     record {
-      values-in = omega (arith, ready.values_are);
-      mattes-in = omega (arith, ready.mattes_are);
-      light-in = omega (arith, room, same);
-      matte-in = omega (arith, room, same);
+      fits = both_on _ _ _ (fits made) _ summed.sum_above.ensures.same;
+      to = summed.sum_above.ensures.to;
+      columns_are = omega (arith, columns);
+      rows_in = omega (arith, high, (start made).requires);
+      values_are = (start made).requires.values_are;
+      mattes_are = (start made).requires.mattes_are;
     }
 
 returns : tie.Need-returns
 returns c =
     let cleared = c.before.before in
-    let rounded = cleared.before.before.before.before.before.before in
-    let kept = rounded.before.before.before.before.before.before in
-    all_shown (start kept).args.state _ _ kept.keep-both.new.0 _ _ _ _ _ (start kept).requires kept.keep-both.ensures
-    rounded.round-row.ensures cleared.clear.ensures
+    let seen = cleared.before.before.before in
+    let shown = seen.before.before.before.before.before in
+    let summed = shown.before.before.before.before.before.before in
+    let made = summed.before.before.before in
+    all_shown (start made).args.state _ _ shown.show_rows.new.1.1.0 _ _ _ _ _ (start made).requires
+    (omega (arith, seen.scratch-2-1.given, summed.sum_above.ensures.same))
+    (omega (arith, seen.before.before.before.before.values-1.given))
+    (omega (arith, seen.before.before.mattes-1.given))
+    (rw made.light_channel-light.ensures at shown.show_rows.ensures)
+    cleared.clear.ensures
 
 pub show_all_spec : {M : Type 1} → statement M
 show_all_spec =
     tie.close
     (tie.spec
-    mul-places
-    keep-both-requires
-    round-row-requires
+    light-channel-requires
+    add-t9
+    sum-above-requires
+    show-rows-requires
     (λ c κs. search rules)
     (λ c. search rules)
     (λ c. search rules)

@@ -1,53 +1,60 @@
 -- `show::sum_above` meets its contract. The invariant: the rows above this one are summed.
-use Rattle.std.proofs.Common.{◌≡◌, ◌-◌, ◌≤◌, arith, rules}
-use Rattle.plate.specs.Passes.{RowsSummed}
-use Rattle.plate.proofs.Laws.Showing.Runs.{channel_on, carries_none, carries_more}
+use Rattle.std.proofs.Common.{◌≡◌, ◌-◌, ◌≤◌, refl, ◌∙◌, arith, rules}
+use Rattle.plate.specs.Showing.{BothSummed}
+use Rattle.plate.proofs.Laws.Showing.BothChannels.{both_on}
 use Rattle.plate.proofs.show.sum_above.Statement.{statement}
 use Rattle.plate.proofs.show.sum_above.Tie as tie
 
-abbrev invariant-loop : tie.invariant-loop
-invariant-loop scratch₀ planes channel rows row₀ scratch row = (row ≤ rows) × RowsSummed channel planes scratch₀ scratch 0 row
+abbrev invariant-loop : tie.invariant-loop-row
+invariant-loop scratch₀ planes light rows row₀ scratch row = (row ≤ rows) × BothSummed light planes scratch₀ scratch row
 
-abbrev decreases-loop : tie.decreases-loop
-decreases-loop scratch₀ planes channel rows row₀ scratch row = rows - row
+abbrev decreases-loop : tie.decreases-loop-row
+decreases-loop scratch₀ planes light rows row₀ scratch row = rows - row
 
-abbrev start : tie.At-loop invariant-loop decreases-loop → tie.Start invariant-loop decreases-loop
-start c = c.before.before.before
+abbrev laid : tie.At-loop-row invariant-loop decreases-loop → tie.After-lay_both invariant-loop decreases-loop
+laid c = c.before.before.before
 
-loop-holds : tie.Need-loop-init invariant-loop decreases-loop
-loop-holds c = (search rules, carries_none _ _ _)
+abbrev start : tie.After-lay_both invariant-loop decreases-loop → tie.Start invariant-loop decreases-loop
+start c = c.before.before.before.before
 
-sum-row-requires : tie.Need-sum-row-requires invariant-loop decreases-loop
-sum-row-requires c κs =
+lay-both-requires : tie.Need-lay_both-requires invariant-loop decreases-loop
+lay-both-requires c κs = c.before.before.before.requires.fits
+
+loop-holds : tie.Need-loop-row-init invariant-loop decreases-loop
+loop-holds c = (search rules, record { same = refl; to = c.before.before.lay_both.ensures.to })
+
+sum-both-requires : tie.Need-sum_both-requires invariant-loop decreases-loop
+sum-both-requires c κs =
     let iteration = c.before.before in
-    let pre = (start iteration).requires in
+    let pre = (start (laid iteration)).requires in
+    let sums = iteration.loop-row.invariant.1 in
     record {
-      fits = channel_on _ _ _ pre.0 _ iteration.loop.invariant.1.only.same;
-      low = omega (arith, c.before.loop-test.true, pre.1);
+      fits = both_on _ _ _ pre.fits _ (sums.same ∙ (laid iteration).lay-both.ensures.same);
+      low = omega (arith, c.before.loop-row-test.true, pre.low);
+      to = sums.to;
     }
 
-add_row : tie.Need-overflow-add-row invariant-loop decreases-loop
+add_row : tie.Need-overflow_step-row invariant-loop decreases-loop
 add_row c =
     let test = c.before.before.before.before in
-    omega (arith, test.loop-test.true, (start test.before).good)
+    omega (arith, test.loop-row-test.true, (start (laid test.before)).fits)
 
-loop-less : tie.Need-loop-smaller invariant-loop decreases-loop
-loop-less c = omega (arith, c.before.before.before.before.loop-test.true)
+loop-less : tie.Need-loop-row-smaller invariant-loop decreases-loop
+loop-less c = omega (arith, c.before.before.before.before.loop-row-test.true)
 
-loop-again : tie.Need-loop-preserved invariant-loop decreases-loop
+loop-again : tie.Need-loop-row-preserved invariant-loop decreases-loop
 loop-again c =
     let summed = c.before.before in
     let test = summed.before.before in
-    let iteration = test.before.loop in (
-      omega (arith, test.loop-test.true),
-      carries_more _ _ _ _ _ iteration.scratch _ iteration.invariant.1 summed.sum_row.ensures,
-    )
+    let sums = summed.sum_both.ensures in
+    (omega (arith, test.loop-row-test.true), record { same = sums.same ∙ test.before.loop-row.invariant.1.same; to = sums.to })
 
 returns : tie.Need-returns invariant-loop decreases-loop
 returns c =
     let iteration = c.before in
-    let e : iteration.loop.row ≡ (start iteration).args.rows = omega arith in
-    rw e at iteration.loop.invariant.1
+    let e : iteration.loop-row.row ≡ (start (laid iteration)).args.rows = omega arith in
+    let sums = rw e at iteration.loop-row.invariant.1 in
+    record { same = sums.same ∙ (laid iteration).lay-both.ensures.same; to = sums.to }
 
 pub sum_above_spec : {M : Type 1} → statement M
 sum_above_spec =
@@ -55,8 +62,9 @@ sum_above_spec =
     (tie.spec
     invariant-loop
     decreases-loop
+    lay-both-requires
     loop-holds
-    sum-row-requires
+    sum-both-requires
     add_row
     loop-less
     loop-again

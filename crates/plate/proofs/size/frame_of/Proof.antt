@@ -4,7 +4,7 @@ use Rattle.plate_model.proofs.Numbers.Extents.{padded_small}
 use Rattle.plate.proofs.size.frame_of.Statement.{statement}
 use Rattle.plate.proofs.size.frame_of.Tie as tie
 
-mul-t4 : tie.Need-overflow-mul-t4
+mul-t4 : tie.Need-overflow_mul-result
 mul-t4 c =
     let s = c.before.before.before.before in
     omega (arith, padded_small s.args.size s.requires)

@@ -4,7 +4,7 @@ use Rattle.plate.proofs.state.accepted.Statement.{statement}
 use Rattle.plate.proofs.state.accepted.Tie as tie
 
 returns : tie.Need-returns
-returns c = rw c.state-of.ensures
+returns c = rw c.state_of.ensures
 
 pub accepted_spec : {M : Type 1} → statement M
 accepted_spec = tie.close (tie.spec (λ c κs. search rules) returns)

@@ -1,75 +1,109 @@
--- `total::add_up` meets its contract: if nothing is left of the rising lines, the first run was from all their marks, and else
--- the second is.
-use Rattle.std.proofs.Common.{◌∙◌, arith, rules}
-use Rattle.plate.proofs.Laws.Showing.Runs.{channel_on}
-use Rattle.plate.proofs.Laws.Showing.Totals.{added_once, added_twice}
+-- `total::add_up` meets its contract. The invariant: the finished cells of the rows before this one are added up, and the sums
+-- are
+-- ready for it.
+use Rattle.std.proofs.Common.{◌≡◌, ◌-◌, ◌≤◌, length, ap, ◌∙◌, arith, rules}
+use Rattle.plate.specs.Passes.{Channel, Starts, down_from, starts_at, SummedTo}
+use Rattle.plate.specs.Totalling.{whole_channel, AddedUp}
+use Rattle.plate.proofs.Laws.Showing.RisingStart.{channel_on}
+use Rattle.plate.proofs.Laws.Showing.Totals.{added_start, added_next}
 use Rattle.plate.proofs.total.add_up.Statement.{statement}
 use Rattle.plate.proofs.total.add_up.Tie as tie
 
-abbrev start : tie.After-start-sums → tie.Start
-start c = c.before.before.before.before
+abbrev invariant-loop : tie.invariant-loop-row
+invariant-loop scratch₀ planes marks columns high channel down sum₀ row₀ scratch sum row =
+    (row ≤ high) × (AddedUp channel planes scratch₀ scratch row sum × SummedTo channel planes scratch row)
 
-abbrev started : tie.After-add-rows → tie.After-start-sums
-started c = c.before.before.before.before
+abbrev decreases-loop : tie.decreases-loop-row
+decreases-loop scratch₀ planes marks columns high channel down sum₀ row₀ scratch sum row = high - row
 
-abbrev added : tie.After-start-again → tie.After-add-rows
-added c = c.before.before.before.before
+abbrev laid : tie.After-starts_at-starts invariant-loop decreases-loop → tie.After-start_sums invariant-loop decreases-loop
+laid c = c.before.before.before
 
-start-sums-requires : tie.Need-start-sums-requires
-start-sums-requires c κs = let start = c.before.before.before in omega (arith, start.requires, start.well-formed)
+abbrev start : tie.After-starts_at-starts invariant-loop decreases-loop → tie.Start invariant-loop decreases-loop
+start c = (laid c).before.before.before.before
 
-add-rows-requires : tie.Need-add-rows-requires
-add-rows-requires c κs =
-    let begun = c.before.before.before in
-    channel_on _ _ _ (start begun).requires _ begun.start-sums.ensures.only.same
+abbrev channel : tie.After-starts_at-starts invariant-loop decreases-loop → Channel
+channel c = whole_channel (start c).args.frame (start c).args.marks
 
-start-again-requires : tie.Need-start-again-requires
-start-again-requires c κs =
-    let run = c.before.before.before in
-    let begun = started run in
+-- where the finished cells of a row lie
+down_is : (c : tie.After-starts_at-starts invariant-loop decreases-loop) → c.starts_at-starts.result.down ≡ down_from (channel c)
+unfolding starts_at
+down_is c = ap (λ (s : Starts). s.down) c.starts_at-starts.ensures
+
+-- the scratch is as long as it was
+same_as : (c : tie.At-loop-row invariant-loop decreases-loop) → length c.loop-row.scratch ≡ length (start c.before).args.scratch.now
+same_as c = c.loop-row.invariant.1.0.same ∙ (laid c.before).start-sums.ensures.only.same
+
+loop-holds : tie.Need-loop-row-init invariant-loop decreases-loop
+loop-holds c = (search rules, (added_start _ _ _, (laid c).start-sums.ensures.to))
+
+sum-next-requires : tie.Need-sum_next-requires invariant-loop decreases-loop
+sum-next-requires c κs =
+    let iteration = c.before.before in
+    record {
+      fits = channel_on _ _ _ (start iteration.before).requires _ (same_as iteration);
+      low = c.before.loop-row-test.true;
+      to = iteration.loop-row.invariant.1.1;
+    }
+
+add-cells-requires : tie.Need-add_cells-sum-requires invariant-loop decreases-loop
+add-cells-requires c κs =
+    let summed = c.before.before.before in
+    let iteration = summed.before.before.before in
     omega (
       arith,
-      run.add-rows.ensures.rows_are.only.same,
-      begun.start-sums.ensures.only.same,
-      (start begun).pre,
-      (start begun).good,
+      down_is iteration.before,
+      summed.sum-next.ensures.only.same,
+      same_as iteration,
+      (start iteration.before).requires.sums_in,
     )
 
-add-rows-requires-2 : tie.Need-add-rows-requires-2
-add-rows-requires-2 c κs =
-    let again = c.before.before.before.before in
-    let run = added again in
-    let begun = started run in
-    channel_on _ _ _ (start begun).pre _
-    (again.start-again.ensures.only.same
-    ∙ run.add-rows.ensures.rows_are.only.same
-    ∙ begun.start-sums.ensures.only.same)
+add_row : tie.Need-overflow_step-row invariant-loop decreases-loop
+add_row c =
+    let test = c.before.before.before.before.before.before in
+    omega (arith, test.loop-test.true, (start test.before.before).well_formed)
 
-returns : tie.Need-returns
+loop-less : tie.Need-loop-row-smaller invariant-loop decreases-loop
+loop-less c = omega (arith, c.before.before.before.before.before.before.loop-test.true)
+
+loop-again : tie.Need-loop-row-preserved invariant-loop decreases-loop
+loop-again c =
+    let summed = c.before.before.before.before in
+    let test = summed.before.before in
+    let iteration = test.before in
+    let sums = summed.sum-next.ensures in (
+      omega (arith, test.loop-test.true),
+      (
+        added_next _ _ _ iteration.loop.scratch _ iteration.loop.row iteration.loop.sum _ _
+            iteration.loop.invariant.1.0 sums.only.same sums.to
+            (down_is iteration.before) c.add_cells-sum.ensures,
+        sums.to,
+      ),
+    )
+
+same_length : tie.Need-shape_of-scratch invariant-loop decreases-loop
+same_length c = same_as c.before
+
+returns : tie.Need-returns invariant-loop decreases-loop
 returns c =
-    let second = c.before.before in
-    let yes = second.before.before in
-    let again = yes.before.before.before in
-    let run = added again in
-    added_twice _ _ _ _ _ _ _ (started run).start-sums.ensures run.add-rows.ensures _ _
-    (rw yes.if1.true at again.start-again.ensures) second.add-rows2.ensures
-
-returns-2 : tie.Need-returns-2
-returns-2 c =
-    let again = c.before.before.before in
-    let run = added again in
-    added_once _ _ _ _ _ _ _ (started run).start-sums.ensures run.add-rows.ensures
-    (rw c.if1.false at again.start-again.ensures)
+    let iteration = c.before in
+    let e : iteration.loop-row.row ≡ (start iteration.before).args.frame.high = omega arith in
+    let all = rw e at iteration.loop-row.invariant.1.0 in
+    record { same = same_as iteration; sum_is = all.sum_is }
 
 pub add_up_spec : {M : Type 1} → statement M
 add_up_spec =
     tie.close
     (tie.spec
-    start-sums-requires
-    add-rows-requires
-    start-again-requires
-    add-rows-requires-2
-    (λ c. search rules)
-    returns
-    (λ c. search rules)
-    returns-2)
+    invariant-loop
+    decreases-loop
+    (λ c κs. search rules)
+    (λ c κs. search rules)
+    loop-holds
+    sum-next-requires
+    add-cells-requires
+    add_row
+    loop-less
+    loop-again
+    same_length
+    returns)

@@ -7,27 +7,27 @@ use Rattle.plate.proofs.Laws.Showing.Totals.{total_ready}
 use Rattle.plate.proofs.total.total.Statement.{statement}
 use Rattle.plate.proofs.total.total.Tie as tie
 
-abbrev start : tie.After-enum-told → tie.Start
-start c = c.before.before.before.before.before
+abbrev start : tie.In-Accepted → tie.Start
+start c = c.before.before.before.before
 
 -- the check passed
-passed : (c : tie.After-enum-told)
+passed : (c : tie.In-Accepted)
     → let a = (start c).args in
     total_check a.state.size (length a.planes.now) (length a.scratch.now) ≡ Accepted
-passed c = sym c.before.before.check-total.ensures ∙ c.enum_told.given.1
+passed c = sym c.before.check_total-outcome.ensures ∙ c.in-Accepted.is
 
-returns : tie.Need-returns
+returns : tie.Need-returns-in_default
 unfolding total_call total_by
-returns c = let told = c.enum-told2.given.1 in rw (told, sym c.before.before.check-total.ensures ∙ told)
+returns c = let told = c.in_default.is in rw (told, sym c.before.check_total-outcome.ensures ∙ told)
 
-total-all-requires : tie.Need-total-all-requires
+total-all-requires : tie.Need-total_all-requires
 total-all-requires c κs = total_ready _ _ _ (passed c.before)
 
-returns-2 : tie.Need-returns-2
+returns-2 : tie.Need-returns
 unfolding total_call
 returns-2 c =
     let done = c.before.before in
-    done.total-all.ensures ∙ rw (passed done.before.before)
+    done.total_all.ensures ∙ rw (passed done.before.before)
 
 pub total_spec : {M : Type 1} → statement M
 total_spec =

@@ -4,42 +4,42 @@ use Rattle.kernels_model.specs.Fixed.{planes_each}
 use Rattle.plate_model.specs.Layout.{padded}
 use Rattle.plate.specs.Frame.{Frame}
 use Rattle.plate_model.proofs.Numbers.Extents.{padded_small}
-use Rattle.plate.proofs.Laws.Showing.Runs.{channel_on}
+use Rattle.plate.proofs.Laws.Showing.RisingStart.{channel_on}
 use Rattle.plate.proofs.Laws.Showing.Totals.{ready_whole, held_is, all_totalled}
 use Rattle.plate.proofs.total.total_all.Statement.{statement}
 use Rattle.plate.proofs.total.total_all.Tie as tie
 
-abbrev start : tie.After-frame-of → tie.Start
+abbrev start : tie.After-frame_of-frame → tie.Start
 start c = c.before.before.before
 
 -- where light's marks start, and where matte's do
-light-from : (c : tie.After-frame-of) → 0 ≡ 0 * padded (start c).args.state.size
+light-from : (c : tie.After-frame_of-frame) → 0 ≡ 0 * padded (start c).args.state.size
 light-from c = omega arith
 
-matte-from : (c : tie.After-frame-of)
-    → planes_each * c.frame-of.result.padded ≡ planes_each * padded (start c).args.state.size
-matte-from c = ap (λ (f : Frame). planes_each * f.padded) c.frame-of.ensures
+matte-from : (c : tie.After-frame_of-frame)
+    → planes_each * c.frame_of-frame.result.padded ≡ planes_each * padded (start c).args.state.size
+matte-from c = ap (λ (f : Frame). planes_each * f.padded) c.frame_of-frame.ensures
 
-frame-of-requires : tie.Need-frame-of-requires
+frame-of-requires : tie.Need-frame_of-frame-requires
 frame-of-requires c κs = c.before.before.requires.lawful
 
-add-up-requires : tie.Need-add-up-requires
+add-up-requires : tie.Need-add_up-light-requires
 add-up-requires c κs =
     let framed = c.before in
-    ready_whole _ _ _ 0 _ _ (omega arith) (start framed).requires framed.frame-of.ensures (light-from framed)
+    ready_whole _ _ _ 0 _ _ (omega arith) (start framed).requires framed.frame_of-frame.ensures (light-from framed)
 
-mul-add-up : tie.Need-overflow-mul-add-up
+mul-add-up : tie.Need-overflow_mul-frame
 mul-add-up c =
     let framed = c.before.before.before.before.before.before in
     omega (arith, matte-from framed, padded_small (start framed).args.state.size (start framed).requires.lawful)
 
-add-up-requires-2 : tie.Need-add-up-requires-2
+add-up-requires-2 : tie.Need-add_up-matte-requires
 add-up-requires-2 c κs =
     let one = c.before.before.before.before in
     let framed = one.before.before in
     channel_on _ _ _
-    (ready_whole _ _ _ planes_each _ _ (omega arith) (start framed).requires framed.frame-of.ensures (matte-from framed)) _
-    one.add-up.ensures.same
+    (ready_whole _ _ _ planes_each _ _ (omega arith) (start framed).requires framed.frame_of-frame.ensures (matte-from framed)) _
+    one.add_up-light.ensures.same
 
 returns : tie.Need-returns
 returns c =
@@ -47,11 +47,11 @@ returns c =
     let two = cleared.before.before.before.before in
     let one = two.before.before.before.before.before in
     let framed = one.before.before in
-    all_totalled (start framed).args.state _ _ two.add-up2.new.0 _ _ _
-    (two.add-up2.ensures.same ∙ one.add-up.ensures.same)
+    all_totalled (start framed).args.state _ _ two.add_up-matte.new.0 _ _ _
+    (two.add_up-matte.ensures.same ∙ one.add_up-light.ensures.same)
     cleared.clear.ensures
-    (held_is _ _ _ _ planes_each _ _ _ framed.frame-of.ensures (matte-from framed) two.add-up2.ensures)
-    (held_is _ _ _ _ 0 _ _ _ framed.frame-of.ensures (light-from framed) one.add-up.ensures)
+    (held_is _ _ _ _ planes_each _ _ _ framed.frame_of-frame.ensures (matte-from framed) two.add_up-matte.ensures)
+    (held_is _ _ _ _ 0 _ _ _ framed.frame_of-frame.ensures (light-from framed) one.add_up-light.ensures)
 
 pub total_all_spec : {M : Type 1} → statement M
 total_all_spec =

@@ -9,33 +9,33 @@ use Rattle.plate.proofs.undo.undo.Statement.{statement}
 use Rattle.plate.proofs.undo.undo.Tie as tie
 
 -- where the call starts, and what it is lent
-abbrev start : tie.After-read-undo → tie.Start
+abbrev start : tie.After-read_undo → tie.Start
 start c = c.before.before.before.before.before.before
 
 abbrev held : tie.Start → Lent
 held s = lent s.args.planes.now s.args.pixels.now s.args.log.now
 
 -- the change that was read
-reads : (c : tie.After-change)
-    → let s = start c.before.before in
-    undo_read s.args.state (lengths_of (held s)) (held s).pixels (held s).log ≡ ToChange c.change.given.0.0
-reads c = sym c.before.before.read-undo.ensures ∙ c.change.given.1
+reads : (c : tie.In-ToChange)
+    → let s = start c.before in
+    undo_read s.args.state (lengths_of (held s)) (held s).pixels (held s).log ≡ ToChange c.in-ToChange.given.0.0
+reads c = sym c.before.read_undo.ensures ∙ c.in-ToChange.is
 
-unlog-and-exchange-requires : tie.Need-unlog-and-exchange-requires
-unlog-and-exchange-requires c κs = undo_ready _ _ _ (reads c.before.before.before.before)
+unlog-and-exchange-requires : tie.Need-unlog_and_exchange-requires
+unlog-and-exchange-requires c κs = undo_ready _ _ _ (reads c.before.before.before)
 
-returns : tie.Need-returns
+returns : tie.Need-returns-in-ToChange
 unfolding undo_call
 returns c =
     let made = c.before.before.before.before.before.before in
-    let change = made.before.before.before.before.before in
-    rw (reads change) made.unlog-and-exchange.ensures
+    let change = made.before.before.before.before in
+    rw (reads change) made.unlog_and_exchange.ensures
 
-returns-2 : tie.Need-returns-2
+returns-2 : tie.Need-returns-in-NoChange
 unfolding undo_call undo_by
 returns-2 c =
-    let told = c.before.before in
-    rw (c.refused.ensures, ← told.before.before.read-undo.ensures, told.why.given.1)
+    let told = c.before in
+    rw (c.refused.ensures, ← told.before.read_undo.ensures, told.in-NoChange.is)
 
 pub undo_spec : {M : Type 1} → statement M
 undo_spec =

@@ -4,23 +4,23 @@ use Rattle.plate_model.specs.Calls.{changed, undo_by}
 use Rattle.plate.proofs.undo.unlog_and_exchange.Statement.{statement}
 use Rattle.plate.proofs.undo.unlog_and_exchange.Tie as tie
 
-sub-last : tie.Need-overflow-sub-last
+sub-last : tie.Need-overflow_sub-last
 sub-last c = c.before.before.before.requires.count_some
 
-mul-log : tie.Need-overflow-mul-log
-mul-log c = let s = c.before.before.before in omega (arith, s.requires.last_in, s.well-formed)
+mul-log : tie.Need-offset_bounds-log-last
+mul-log c = let s = c.before.before.before in omega (arith, s.requires.last_in, s.well_formed)
 
-slice-write-log : tie.Need-slice-write-log
+slice-write-log : tie.Need-bounds-log-last
 slice-write-log c = c.before.before.before.requires.last_in
 
-exchange-requires : tie.Need-exchange-requires
+exchange-requires : tie.Need-exchange-marks-requires
 exchange-requires c κs =
     let h = c.before.before.before.before.before.before.requires in (h.changeable, h.place_in)
 
 returns : tie.Need-returns
 unfolding undo_by changed
 returns c =
-    let h = c.before.before.before.before.before.exchange.ensures in
+    let h = c.before.before.before.before.before.exchange-marks.ensures in
     rw (c.accepted.ensures, h.marks_are, h.planes_are, h.pixels_are)
 
 pub unlog_and_exchange_spec : {M : Type 1} → statement M

@@ -12,7 +12,7 @@ returns c =
     let low = p.value + 4096 * p.opacity in
     let small : number_of p.shape ≤ 5 = number_le p.shape in
     rw (
-      c.before.before.before.number.ensures,
+      c.before.before.before.number-number.ensures,
       or_field 12 p.value p.opacity (omega arith) (omega arith),
       or_field 20 low (number_of p.shape) (omega arith) (omega arith),
       or_field 24 (low + 1048576 * number_of p.shape) p.radius (omega arith) (omega arith),

@@ -10,53 +10,53 @@ use Rattle.plate.proofs.word.unpack.Statement.{statement}
 use Rattle.plate.proofs.word.unpack.Tie as tie
 use Rattle.plate_model.specs.Fixed.{word_bits}
 
-abbrev start : tie.After-shape → tie.Start
-start c = c.before.before.before.before
+abbrev start : tie.In-Known → tie.Start
+start c = c.before.before.before
 
 -- past the shape's test
-known : (c : tie.After-shape)
+known : (c : tie.In-Known)
     → read_word (start c).args.reach (start c).args.word
-    ≡ pixel_in (start c).args.reach (start c).args.word (Known c.shape.given.0.0)
-known c = low_word _ _ _ (omega arith) (sym (shape_read_lem _ _ c.before.before.shape_of.ensures) ∙ c.shape.given.1)
+    ≡ pixel_in (start c).args.reach (start c).args.word (Known c.in-Known.given.0.0)
+known c = low_word _ _ _ (omega arith) (sym (shape_read_lem _ _ c.before.shape_of.ensures) ∙ c.in-Known.is)
 
-returns : tie.Need-returns
+returns : tie.Need-returns-then-word-ne0
 unfolding read_word
 returns c = rw (le-leb (2 ^ word_bits) c.before.args.word (omega arith))
 
-cast-shape-of : tie.Need-overflow-cast-shape-of
+cast-shape-of : tie.Need-overflow_cast-word
 cast-shape-of c = Fits-mask (c.before.args.word / 1048576) 4 tt
 
-returns-2 : tie.Need-returns-2
+returns-2 : tie.Need-returns-in_default
 returns-2 c =
     sym
-    (low_word _ _ Unknown (omega arith) (sym (shape_read_lem _ _ c.before.before.shape_of.ensures) ∙ c.enum_told.given.1))
+    (low_word _ _ Unknown (omega arith) (sym (shape_read_lem _ _ c.before.shape_of.ensures) ∙ c.in_default.is))
 
-cast-radius : tie.Need-overflow-cast-radius
-cast-radius c = Fits-mask ((start c.before).args.word / 16777216) 8 tt
+cast-radius : tie.Need-overflow_cast-radius
+cast-radius c = Fits-mask ((start c).args.word / 16777216) 8 tt
 
-returns-3 : tie.Need-returns-3
+returns-3 : tie.Need-returns-then-top_under-radius
 returns-3 c =
-    let shaped = c.before.before.before in
+    let shaped = c.before.before in
     let w = (start shaped).args.word in
-    rw (known shaped, ← c.before.top-under.ensures, ← and_mask (w / 2 ^ 24) 8, lt-ltb _ _ c.if2.true)
+    rw (known shaped, ← c.before.top_under.ensures, ← and_mask (w / 2 ^ 24) 8, lt-ltb _ _ c.if-top_under-radius.true)
 
-cast-t10 : tie.Need-overflow-cast-t10
-cast-t10 c = Fits-mask (start c.before.before.before).args.word 12 tt
+cast-t10 : tie.Need-overflow_cast-result
+cast-t10 c = Fits-mask (start c.before.before).args.word 12 tt
 
-cast-t9 : tie.Need-overflow-cast-t9
-cast-t9 c = Fits-mask ((start c.before.before.before).args.word / 4096) 8 tt
+cast-t9 : tie.Need-overflow_cast-result-2
+cast-t9 c = Fits-mask ((start c.before.before).args.word / 4096) 8 tt
 
-returns-4 : tie.Need-returns-4
+returns-4 : tie.Need-returns
 returns-4 c =
-    let shaped = c.before.before.before in
+    let shaped = c.before.before in
     let w = (start shaped).args.word in
     rw (
       known shaped,
-      ← c.before.top-under.ensures,
+      ← c.before.top_under.ensures,
       ← and_mask w 12,
       ← and_mask (w / 2 ^ 12) 8,
       ← and_mask (w / 2 ^ 24) 8,
-      le-ltb _ _ c.if2.false,
+      le-ltb _ _ c.if-top_under-radius.false,
     )
 
 pub unpack_spec : {M : Type 1} → statement M

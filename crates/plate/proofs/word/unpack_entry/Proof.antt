@@ -6,23 +6,23 @@ use Rattle.plate.proofs.Laws.Words.Fields.{placed_entry}
 use Rattle.plate.proofs.word.unpack_entry.Statement.{statement}
 use Rattle.plate.proofs.word.unpack_entry.Tie as tie
 
-mul-if1 : tie.Need-overflow-mul-if1
+mul-if1 : tie.Need-overflow_mul-size
 mul-if1 c = omega (arith, c.before.requires.places_top_fact)
 
-returns : tie.Need-returns
+returns : tie.Need-returns-then-size-place
 unfolding read_entry
-returns c = rw (le-leb _ _ c.if1.true)
+returns c = rw (le-leb _ _ c.if-size-place.true)
 
-returns-2 : tie.Need-returns-2
+returns-2 : tie.Need-returns-in_default
 returns-2 c =
-    let read = c.before.before in
-    sym (placed_entry _ _ Broken read.before.if1.false (sym read.unpack.ensures ∙ c.enum_told.given.1))
+    let read = c.before in
+    sym (placed_entry _ _ Broken read.before.if-size-place.false (sym read.unpack.ensures ∙ c.in_default.is))
 
-returns-3 : tie.Need-returns-3
+returns-3 : tie.Need-returns
 returns-3 c =
-    let known = c.before in
-    let read = known.before.before in
-    sym (placed_entry _ _ _ read.before.if1.false (sym read.unpack.ensures ∙ known.pixel.given.1))
+    let known = c in
+    let read = known.before in
+    sym (placed_entry _ _ _ read.before.if-size-place.false (sym read.unpack.ensures ∙ known.in-Whole.is))
 
 pub unpack_entry_spec : {M : Type 1} → statement M
 unpack_entry_spec =

@@ -1,0 +1,155 @@
+-- `kept::keep_rows` meets its contract. The invariant: the sums of the image's rows before this one are kept, and the scratch
+-- is ready for it.
+use Rattle.std.proofs.Common.{◌≡◌, ◌+◌, ◌-◌, ◌*◌, ◌^◌, ◌<◌, ◌≤◌, ◌∙◌, arith, rules}
+use Rattle.plate.specs.Passes.{sums_end}
+use Rattle.plate_model.proofs.Numbers.Extents.{row_in}
+use Rattle.plate.proofs.Laws.Showing.BothChannels.{both_on, matte_sums}
+use Rattle.plate.proofs.Laws.Showing.Image.{row_finished}
+use Rattle.plate.proofs.Laws.Showing.Keeping.{KeepingAt, keeping_start, kept_next}
+use Rattle.plate.proofs.kept.keep_rows.Statement.{statement}
+use Rattle.plate.proofs.kept.keep_rows.Tie as tie
+
+abbrev invariant-loop : tie.invariant-loop-row
+invariant-loop sums₀ scratch₀ planes light first width height places light-end light-down matte-down row₀ sums scratch row =
+    (row ≤ height)
+    × KeepingAt light (record { first = first; width = width; height = height }) planes scratch₀ scratch sums₀ sums row
+
+abbrev decreases-loop : tie.decreases-loop-row
+decreases-loop sums₀ scratch₀ planes light first width height places light-end light-down matte-down row₀ sums scratch row = height - row
+
+abbrev start : tie.After-matte_after-matte invariant-loop decreases-loop → tie.Start invariant-loop decreases-loop
+start c = c.before.before.before.before
+
+-- where matte's sums start
+sums-is : (c : tie.After-matte_after-matte invariant-loop decreases-loop) → c.matte_after-matte.result.sums ≡ sums_end (start c).args.light
+sums-is c = matte_sums _ _ c.matte_after-matte.ensures
+
+abbrev made : tie.In-loop-row invariant-loop decreases-loop → tie.After-matte_after-matte invariant-loop decreases-loop
+made c = c.before.before.before
+
+-- a row of the image is in it
+place_in : (c : tie.In-loop-row invariant-loop decreases-loop)
+    → let image = (start (made c)).args.image in
+    c.before.loop-row.row * image.width + image.width ≤ image.width * image.height
+place_in c = row_in c.before.loop-row.row _ _ c.loop-row-test.true
+
+-- and far below 2 ^ 64
+below : (c : tie.In-loop-row invariant-loop decreases-loop) → (start (made c)).args.image.first + (c.before.loop-row.row + 1) < 2 ^ 64
+below c = omega (arith, c.loop-row-test.true, (start (made c)).requires.rows_in, (start (made c)).requires.fits, (start (made c)).well_formed)
+
+mul-places : tie.Need-overflow_mul-places invariant-loop decreases-loop
+mul-places c = omega (arith, (start c).requires.sums_are, (start c).well_formed)
+
+sub-light-down : tie.Need-overflow_sub-light_down invariant-loop decreases-loop
+sub-light-down c = omega (arith, sums-is c, (start c).requires.columns_are)
+
+sub-matte-down : tie.Need-overflow_sub-matte_down invariant-loop decreases-loop
+sub-matte-down c = omega (arith, sums-is c.before)
+
+add-matte-down : tie.Need-overflow_add-matte_down invariant-loop decreases-loop
+add-matte-down c = omega (arith, sums-is c.before, (start c.before).requires, (start c.before).well_formed)
+
+loop-holds : tie.Need-loop-row-init invariant-loop decreases-loop
+loop-holds c = (search rules, keeping_start _ _ _ _ _ (start c.before).requires.to)
+
+add-sum-both : tie.Need-overflow_add-first invariant-loop decreases-loop
+add-sum-both c = omega (arith, below c.before)
+
+sum-both-requires : tie.Need-sum_both-requires invariant-loop decreases-loop
+sum-both-requires c κs =
+    let test = c.before in
+    let pre = (start (made test)).requires in
+    let sums = test.before.loop-row.invariant.1.both in
+    record {
+      fits = both_on _ _ _ pre.fits _ sums.same;
+      low = omega (arith, test.loop-row-test.true, pre.rows_in);
+      to = sums.to;
+    }
+
+mul-place : tie.Need-overflow_mul-place invariant-loop decreases-loop
+mul-place c =
+    let test = c.before.before.before.before in
+    omega (arith, place_in test, (start (made test)).requires.sums_are, (start (made test)).well_formed)
+
+add-keep-row : tie.Need-overflow_add-places invariant-loop decreases-loop
+add-keep-row c =
+    let test = c.before.before.before.before.before.before in
+    omega (arith, place_in test, (start (made test)).requires.sums_are, (start (made test)).well_formed)
+
+keep-row-requires : tie.Need-keep_row-requires invariant-loop decreases-loop
+keep-row-requires c κs =
+    let summed = c.before.before.before.before in
+    let test = summed.before.before in
+    let pre = (start (made test)).requires in
+    let now = test.before.loop.invariant.1 in
+    let place = place_in test in
+    let from = sums-is (made test) in
+    let same = summed.sum_both.ensures.same in
+    record {
+      light_in = omega (arith, from, same, now.both.same, pre.fits, pre.columns_are);
+      matte_in = omega (arith, from, same, now.both.same, pre.fits, pre.columns_are);
+      first_in = omega (arith, place);
+      second_in = omega (arith, place, now.same, pre.sums_are);
+    }
+
+add_row : tie.Need-overflow_step-row invariant-loop decreases-loop
+add_row c =
+    let test = c.before.before.before.before.before.before.before.before.before in
+    omega (arith, below test)
+
+loop-less : tie.Need-loop-row-smaller invariant-loop decreases-loop
+loop-less c =
+    let test = c.before.before.before.before.before.before.before.before.before in
+    omega (arith, test.loop-test.true)
+
+loop-again : tie.Need-loop-row-preserved invariant-loop decreases-loop
+loop-again c =
+    let kept = c.before.before in
+    let summed = kept.before.before.before.before.before in
+    let test = summed.before.before in
+    let pre = (start (made test)).requires in
+    let iteration = test.before.loop in
+    let now = iteration.invariant.1 in
+    let sums = summed.sum_both.ensures in
+    let from = sums-is (made test) in
+    let first = (start (made test)).args.image.first in
+    let e : first + (iteration.row + 1) ≡ first + iteration.row + 1 = omega arith in (
+      omega (arith, test.loop-test.true),
+      record {
+        same = kept.keep_row.ensures.same ∙ now.same;
+        both = record { same = sums.same ∙ now.both.same; to = rw e sums.to };
+        done = kept_next _ _ _ _ _ _ iteration.row _ _ test.loop-test.true (row_finished _ _ _ _ iteration.row _ _
+            pre.columns_are sums.to (omega (arith, from, pre.columns_are)) (omega (arith, from, pre.columns_are)))
+            now.done kept.keep_row.ensures;
+      },
+    )
+
+returns : tie.Need-returns invariant-loop decreases-loop
+returns c =
+    let iteration = c.before.loop-row in
+    let e : iteration.row ≡ (start c.before.before.before).args.image.height = omega arith in
+    rw e at iteration.invariant.1.done
+
+pub keep_rows_spec : {M : Type 1} → statement M
+keep_rows_spec =
+    tie.close
+    (tie.spec
+    invariant-loop
+    decreases-loop
+    (λ c κs. search rules)
+    mul-places
+    sub-light-down
+    sub-matte-down
+    add-matte-down
+    loop-holds
+    add-sum-both
+    sum-both-requires
+    mul-place
+    add-keep-row
+    keep-row-requires
+    add_row
+    loop-less
+    loop-again
+    (λ c. search rules)
+    (λ c. search rules)
+    returns)
