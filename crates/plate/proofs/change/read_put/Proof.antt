@@ -23,7 +23,7 @@ abbrev begun : tie.In-ToPut → tie.Start
 begun c = start c.before
 
 passed : (c : tie.In-ToPut) → let s = begun c in
-    (put_check s.args.state s.args.ask (held s) ≡ Accepted) × (asked_pixel s.args.ask ≡ c.in-ToPut.given.0.0)
+    (put_check s.args.state s.args.ask (held s) ≡ Accepted) × (asked_pixel s.args.ask ≡ c.in-ToPut.new)
 passed c = to_put _ _ _ (sym c.before.check_put.ensures ∙ c.in-ToPut.is)
 
 plate : (c : tie.In-ToPut) → PlateAccepted (begun c).args.state (held (begun c))

@@ -40,12 +40,12 @@ passed c = c.before.before.before
 -- the last entry can be read
 logged : (c : tie.In-Logged)
     → let s = start (passed c.before) in
-    read_entry s.args.state.size (get_or s.args.log.now (s.args.state.count - 1) 0) ≡ Logged c.in-Logged.given.0.0
+    read_entry s.args.state.size (get_or s.args.log.now (s.args.state.count - 1) 0) ≡ Logged c.in-Logged.entry
 logged c = sym c.before.unpack_entry.ensures ∙ c.in-Logged.is
 
 -- so it holds a place of the plate
 inside : (c : tie.In-Logged)
-    → c.in-Logged.given.0.0.place < places (start (passed c.before)).args.state.size
+    → c.in-Logged.entry.place < places (start (passed c.before)).args.state.size
 inside c = (entry_read _ _ _ (logged c)).0
 
 -- where the stored word is read
@@ -55,8 +55,8 @@ last c = c.before.before
 -- the stored word is a pixel's
 read : (c : tie.In-Whole)
     → let entry = last c.before in
-    let a = (start (passed entry.before.before)).args in
-    read_word a.state.size.reach (get_or a.pixels.now entry.entry.given.0.0.place 0) ≡ Whole c.in-Whole.given.0.0
+    let a = (start (passed entry.before)).args in
+    read_word a.state.size.reach (get_or a.pixels.now entry.in-Logged.entry.place 0) ≡ Whole c.in-Whole.old
 read c = sym c.before.unpack.ensures ∙ c.in-Whole.is
 
 returns : tie.Need-returns-in-Refused
@@ -100,25 +100,25 @@ returns-3 c =
     let unpacked = c.before in
     let entry = last unpacked in
     rw (
-      checked (passed entry.before.before),
+      checked (passed entry.before),
       logged entry,
       sym unpacked.unpack.ensures ∙ c.in_default-unpack.is,
     )
 
 rem-x : tie.Need-nonzero_rem-x
 rem-x c =
-    (plate (passed (last c.before.before).before.before)).lawful.width_some
+    (plate (passed (last c.before.before).before)).lawful.width_some
 
 div-y : tie.Need-nonzero_div-y
 div-y c =
-    (plate (passed (last c.before.before).before.before)).lawful.width_some
+    (plate (passed (last c.before.before).before)).lawful.width_some
 
 returns-4 : tie.Need-returns
 unfolding undo_read undo_read_by undo_entry undo_over
 returns-4 c =
     let old = c.before in
     let entry = last old.before in
-    rw (checked (passed entry.before.before), logged entry, read old)
+    rw (checked (passed entry.before), logged entry, read old)
 
 pub read_undo_spec : {M : Type 1} → statement M
 read_undo_spec =

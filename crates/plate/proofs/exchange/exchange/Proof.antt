@@ -41,7 +41,7 @@ returns c =
     let packed = old.before in
     record {
       marks_are = omega (arith, old.mark_count-gone.ensures, c.mark_count-come.ensures);
-      planes_are = (moved packed).exchange-marks.ensures;
+      planes_are = (moved packed).exchange_marks.ensures;
       pixels_are = rw packed.pack.ensures;
     }
 

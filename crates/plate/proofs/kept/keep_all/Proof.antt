@@ -31,7 +31,7 @@ kept c = c.before.before.before.before.before
 
 -- there are as many sums as there were
 same_sums : (c : tie.After-struct_known-2-1)
-    → length (kept c).keep-rows.new.0 ≡ sums_in_all (start (made (summed (kept c)))).args.state.size
+    → length (kept c).keep_rows.new.sums ≡ sums_in_all (start (made (summed (kept c)))).args.state.size
 same_sums c =
     omega (arith, c.before.before.before.before.sums-1.given, (start (made (summed (kept c)))).requires.sums_are)
 
@@ -51,8 +51,8 @@ keep-rows-requires : tie.Need-keep_rows-requires
 keep-rows-requires c κs =
     let summed = c.before.before.before.before in
     let made = made summed in
-    let columns = ap (λ (p : Channel). p.columns) made.light-channel.ensures in
-    let high = ap (λ (p : Channel). p.high) made.light-channel.ensures in
+    let columns = ap (λ (p : Channel). p.columns) made.light_channel-light.ensures in
+    let high = ap (λ (p : Channel). p.high) made.light_channel-light.ensures in
     record {
       fits = both_on _ _ _ (fits made) _ summed.sum_above.ensures.same;
       to = summed.sum_above.ensures.to;
@@ -68,7 +68,7 @@ mul-places c =
 
 round-row-requires : tie.Need-round_row-requires
 round-row-requires c κs =
-    let known = c.before.before.before in
+    let known = c.before.before in
     let ready = (start (made (summed (kept known)))).requires.show in
     record {
       values_in = omega (arith, ready.values_are);
@@ -81,16 +81,16 @@ returns : tie.Need-returns
 returns c =
     let cleared = c.before.before in
     let rounded = cleared.before.before.before.before.before.before in
-    let known = rounded.before.before.before.before in
+    let known = rounded.before.before.before in
     let rows = kept known in
     let sums = summed rows in
     let first = made sums in
-    all_kept (start first).args.state _ _ _ rows.keep-rows.last.1.0 _ _ _ _ _ _ rows.keep-rows.last.0
-    first.light-channel.ensures
+    all_kept (start first).args.state _ _ _ rows.keep_rows.new.scratch _ _ _ _ _ _ rows.keep_rows.new.sums
+    first.light_channel-light.ensures
     (start first).requires
-    (omega (arith, known.before.before.scratch2.given, sums.sum-above.ensures.same))
-    (omega (arith, known.before.before.before.before.sums.given))
-    rows.keep-rows.ensures
+    (omega (arith, known.before.before.scratch-2-1.given, sums.sum_above.ensures.same))
+    (omega (arith, known.before.before.before.before.sums-1.given))
+    rows.keep_rows.ensures
     rounded.round_row.ensures
     cleared.clear.ensures
 

@@ -73,15 +73,15 @@ mul-place c =
 
 add-keep-row : tie.Need-overflow_add-places invariant-loop decreases-loop
 add-keep-row c =
-    let test = c.before.before.before.before.before.before in
+    let test = c.before.before.before.before.before in
     omega (arith, place_in test, (start (made test)).requires.sums_are, (start (made test)).well_formed)
 
 keep-row-requires : tie.Need-keep_row-requires invariant-loop decreases-loop
 keep-row-requires c κs =
-    let summed = c.before.before.before.before in
+    let summed = c.before.before.before in
     let test = summed.before.before in
     let pre = (start (made test)).requires in
-    let now = test.before.loop.invariant.1 in
+    let now = test.before.loop-row.invariant.1 in
     let place = place_in test in
     let from = sums-is (made test) in
     let same = summed.sum_both.ensures.same in
@@ -94,31 +94,31 @@ keep-row-requires c κs =
 
 add_row : tie.Need-overflow_step-row invariant-loop decreases-loop
 add_row c =
-    let test = c.before.before.before.before.before.before.before.before.before in
+    let test = c.before.before.before.before.before.before.before.before in
     omega (arith, below test)
 
 loop-less : tie.Need-loop-row-smaller invariant-loop decreases-loop
 loop-less c =
-    let test = c.before.before.before.before.before.before.before.before.before in
-    omega (arith, test.loop-test.true)
+    let test = c.before.before.before.before.before.before.before.before in
+    omega (arith, test.loop-row-test.true)
 
 loop-again : tie.Need-loop-row-preserved invariant-loop decreases-loop
 loop-again c =
     let kept = c.before.before in
-    let summed = kept.before.before.before.before.before in
+    let summed = kept.before.before.before.before in
     let test = summed.before.before in
     let pre = (start (made test)).requires in
-    let iteration = test.before.loop in
+    let iteration = test.before.loop-row in
     let now = iteration.invariant.1 in
     let sums = summed.sum_both.ensures in
     let from = sums-is (made test) in
     let first = (start (made test)).args.image.first in
     let e : first + (iteration.row + 1) ≡ first + iteration.row + 1 = omega arith in (
-      omega (arith, test.loop-test.true),
+      omega (arith, test.loop-row-test.true),
       record {
         same = kept.keep_row.ensures.same ∙ now.same;
         both = record { same = sums.same ∙ now.both.same; to = rw e sums.to };
-        done = kept_next _ _ _ _ _ _ iteration.row _ _ test.loop-test.true (row_finished _ _ _ _ iteration.row _ _
+        done = kept_next _ _ _ _ _ _ iteration.row _ _ test.loop-row-test.true (row_finished _ _ _ _ iteration.row _ _
             pre.columns_are sums.to (omega (arith, from, pre.columns_are)) (omega (arith, from, pre.columns_are)))
             now.done kept.keep_row.ensures;
       },

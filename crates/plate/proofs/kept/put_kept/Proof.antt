@@ -14,7 +14,7 @@ use Rattle.plate.proofs.kept.put_kept.Tie as tie
 
 -- where the call starts, and what it is lent
 abbrev start : tie.After-read_put → tie.Start
-start c = c.before.before.before.before.before.before.before.before.before.before.before.before
+start c = c.before.before.before.before.before.before.before.before.before.before.before
 
 abbrev held : tie.Start → Lent
 held s = lent s.args.planes.now s.args.pixels.now s.args.log.now
@@ -27,15 +27,15 @@ asked s = let a = s.args in ask a.x a.y a.value a.opacity a.shape a.radius
 
 -- sums and pictures passed the check
 checked : (c : tie.After-read_put) → let s = start c in canvas_first s.args.state.size (kept s) ≡ Accepted
-checked c = let told = c.before.before in sym told.before.before.check-kept.ensures ∙ told.enum_told.given.1
+checked c = let told = c.before.before in sym told.check_kept-checked.ensures ∙ told.in_default.is
 
 -- the change that was read
 reads : (c : tie.In-ToChange)
     → let s = start c.before in
-    put_read s.args.state (asked s) (lengths_of (held s)) (held s).pixels ≡ ToChange c.in-ToChange.given.0.0
+    put_read s.args.state (asked s) (lengths_of (held s)) (held s).pixels ≡ ToChange c.in-ToChange.change
 reads c =
     let read = c.before in
-    rw (← read.before.before.asked.ensures) (sym read.read_put.ensures ∙ c.in-ToChange.is)
+    rw (← read.asked-arguments.ensures) (sym read.read_put.ensures ∙ c.in-ToChange.is)
 
 returns : tie.Need-returns-in-Refused
 unfolding put_kept_call put_kept_by kept_read canvas_by put_by
@@ -75,7 +75,7 @@ returns-3 c =
     rw (
       c.refused-in-NoChange.ensures,
       checked read,
-      ← read.before.before.asked.ensures,
+      ← read.asked-arguments.ensures,
       ← read.read_put.ensures,
       told.in-NoChange.is,
     )

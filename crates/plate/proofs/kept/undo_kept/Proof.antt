@@ -13,7 +13,7 @@ use Rattle.plate.proofs.kept.undo_kept.Tie as tie
 
 -- where the call starts, and what it is lent
 abbrev start : tie.After-read_undo → tie.Start
-start c = c.before.before.before.before.before.before.before.before.before.before.before.before
+start c = c.before.before.before.before.before.before.before.before.before.before
 
 abbrev held : tie.Start → Lent
 held s = lent s.args.planes.now s.args.pixels.now s.args.log.now
@@ -23,12 +23,12 @@ kept s = canvas s.args.sums.now s.args.values.now s.args.mattes.now
 
 -- sums and pictures passed the check
 checked : (c : tie.After-read_undo) → let s = start c in canvas_first s.args.state.size (kept s) ≡ Accepted
-checked c = let told = c.before.before in sym told.before.before.check-kept.ensures ∙ told.enum_told.given.1
+checked c = let told = c.before in sym told.check_kept-checked.ensures ∙ told.in_default.is
 
 -- the change that was read
 reads : (c : tie.In-ToChange)
     → let s = start c.before in
-    undo_read s.args.state (lengths_of (held s)) (held s).pixels (held s).log ≡ ToChange c.in-ToChange.given.0.0
+    undo_read s.args.state (lengths_of (held s)) (held s).pixels (held s).log ≡ ToChange c.in-ToChange.change
 reads c = sym c.before.read_undo.ensures ∙ c.in-ToChange.is
 
 returns : tie.Need-returns-in-Refused

@@ -70,7 +70,7 @@ lay-column-requires c κs =
     let a = s.args in
     let column = inside iteration in
     record {
-      marks-fit =
+      marks_fit =
           record { planes_are = omega (arith, iteration.before.loop-i.invariant.1, s.requires.0.planes_are); inside = column.0 };
       last_in = omega (arith, iteration.before.loop-i.invariant.1, s.requires.0.planes_are, column.1);
       two_at_least = s.requires.1;

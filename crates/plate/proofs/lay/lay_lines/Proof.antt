@@ -63,8 +63,8 @@ lay-level-requires-2 c κs =
         arith,
         c.before.before.planes-4-1.given,
         piece3.before.before.before.planes-3-1.given,
-        piece2.before.before.before.planes2.given,
-        level1.before.before.before.planes.given,
+        piece2.before.before.before.planes-2-1.given,
+        level1.before.before.before.planes-1.given,
         s.requires.planes_are,
       );
       inside = (bottom_in s).middle;
@@ -83,9 +83,9 @@ lay-piece-requires-4 c κs =
         arith,
         c.before.before.planes-5-1.given,
         level2.before.before.before.planes-4-1.given,
-        piece3.before.before.before.planes3.given,
-        piece2.before.before.before.planes2.given,
-        level1.before.before.before.planes.given,
+        piece3.before.before.before.planes-3-1.given,
+        piece2.before.before.before.planes-2-1.given,
+        level1.before.before.before.planes-1.given,
         s.requires.planes_are,
       );
       inside = (bottom_in s).last;
@@ -104,12 +104,12 @@ returns c =
     let s = start piece1 in
     let w = s.args.w in
     let plus = times-one w (omega (arith, s.well_formed)) (omega (arith, s.well_formed)) in
-    let less = turned.opposite.ensures in
+    let less = turned.opposite-minus.ensures in
     both_laid _ w _ _ _
-    (both_laid _ w _ _ _ (piece1.lay-piece.ensures w 1 (minus 1) plus less)
-    (both_laid _ w _ _ _ (level1.lay-level.ensures w 1 (minus 1) plus less)
-    (piece2.lay-piece2.ensures w 1 (minus 1) plus less)))
-    (both_laid _ w _ _ _ (piece3.lay-piece3.ensures w (minus 1) 1 less plus)
+    (both_laid _ w _ _ _ (piece1.lay_piece.ensures w 1 (minus 1) plus less)
+    (both_laid _ w _ _ _ (level1.lay_level.ensures w 1 (minus 1) plus less)
+    (piece2.lay_piece-2.ensures w 1 (minus 1) plus less)))
+    (both_laid _ w _ _ _ (piece3.lay_piece-3.ensures w (minus 1) 1 less plus)
     (both_laid _ w _ _ _ (level2.lay_level-2.ensures w (minus 1) 1 less plus)
     (last.lay_piece-4.ensures w (minus 1) 1 less plus)))
 

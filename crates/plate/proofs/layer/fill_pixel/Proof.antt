@@ -10,7 +10,7 @@ use Rattle.plate.proofs.layer.fill_pixel.Tie as tie
 -- the radius of the pixel
 radius : (c : tie.In-Pixels)
     → let a = c.before.before.before.args in
-    c.in-Pixels.given.0.0 ≡ min a.layer.top (blur a.layer.lens a.depth)
+    c.in-Pixels.radius ≡ min a.layer.top (blur a.layer.lens a.depth)
 radius c =
     let start = c.before.before.before in
     let a = start.args in
@@ -26,7 +26,7 @@ returns c =
     let some =
     radius_read _ a.layer.lens a.layer.top a.depth found.radius_from.ensures
     start.requires.0.lens_lawful start.requires.2.depth_in in
-    absurd (⊎_elim (λ q. omega arith) (λ q. omega arith) (rw some at c.in_default.is))
+    absurd (c.in_default.not-Pixels _ some)
 
 lay-pixel-requires : tie.Need-lay_pixel-requires
 lay-pixel-requires c κs =

@@ -14,10 +14,10 @@ returns c =
     let a = s.args in
     let count = counted.less-count.ensures in
     let light : RunAdded (a.start + a.columns.first) (a.columns.past - a.columns.first) a.by.light a.sums.now
-    first.add_run.new.0 =
+    first.add_run.new.sums =
     rw (← count) first.add_run.ensures in
     let matte : RunAdded (a.places + (a.start + a.columns.first)) (a.columns.past - a.columns.first) a.by.matte
-    first.add_run.new.0 second.add_run-2.new.0 =
+    first.add_run.new.sums second.add_run-2.new.sums =
     rw (← count) second.add_run-2.ensures in
     run_given _ _ _ _ _ _ _ s.requires light matte
 

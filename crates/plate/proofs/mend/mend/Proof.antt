@@ -64,7 +64,7 @@ loop-holds c = (omega arith, mended-none _ _ _ _ (λ i s. omega (arith, s.0, s.1
 
 -- a row of the range is one of the plate's
 row_in : (c : tie.In-loop-row invariant-loop decreases-loop) → c.before.loop-row.row < (start (shaped c).before).args.size.height
-row_in c = omega (arith, c.loop-row-test.true, (shaped c).cells-around.ensures.1)
+row_in c = omega (arith, c.loop-row-test.true, (shaped c).cells_around-rows.ensures.1)
 
 mend-row-requires : tie.Need-mend_row-requires invariant-loop decreases-loop
 mend-row-requires c κs =
@@ -74,8 +74,8 @@ mend-row-requires c κs =
       still_ready _ _ _ (start made).requires _ _ iteration.invariant.1,
       (
         record {
-          old_is = made.before.before.before.before.share-of.ensures;
-          new_is = made.before.before.before.share-of2.ensures;
+          old_is = made.before.before.before.before.share_of-old_share.ensures;
+          new_is = made.before.before.before.share_of-new_share.ensures;
         },
         row_in test,
       ),

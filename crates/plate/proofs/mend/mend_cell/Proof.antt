@@ -6,10 +6,10 @@ use Rattle.plate.proofs.mend.mend_cell.Tie as tie
 
 -- where the call starts, after the old pixel's weight and after the new one's
 abbrev start : tie.After-weight_at → tie.Start
-start c = c.before.before.before.before
+start c = c.before.before.before.before.before
 
 abbrev weighed : tie.After-weight_at-2 → tie.After-weight_at
-weighed c = c.before.before
+weighed c = c.before.before.before
 
 mul-gave : tie.Need-overflow_mul-gave
 mul-gave c =
@@ -23,7 +23,7 @@ mul-gives c =
 
 mul-mend-sum : tie.Need-overflow_mul-old
 mul-mend-sum c =
-    let first = c.before.before.before.before.before.before in
+    let first = c.before.before.before.before.before.before.before in
     let s = start first in
     rw first.weight_at.ensures (omega (arith, light_small s.args.old s.args.dx s.requires.old_few))
 
@@ -51,7 +51,7 @@ returns c =
       matte.mend_sum-matte.ensures,
       light.mend_sum-light.ensures,
       second.weight_at-2.ensures,
-      first.weight-at.ensures,
+      first.weight_at.ensures,
     )
     (record { sums_are = refl; values_are = refl; mattes_are = refl })
 

@@ -28,7 +28,7 @@ shaped c = c.before.before
 
 -- a column of the range is one of the plate's
 column_in : (c : tie.In-loop-column invariant-loop decreases-loop) → c.before.loop-column.column < (start (shaped c)).args.size.width
-column_in c = omega (arith, c.loop-column-test.true, (shaped c).cells-around.ensures.1)
+column_in c = omega (arith, c.loop-column-test.true, (shaped c).cells_around-columns.ensures.1)
 
 -- and its place is far below 2 ^ 64
 place_in : (c : tie.In-loop-column invariant-loop decreases-loop) → let a = (start (shaped c)).args in

@@ -7,7 +7,7 @@ use Rattle.plate.proofs.mend.mend_row.Tie as tie
 
 -- where the call starts, and what both pixels give the row
 abbrev start : tie.After-given_row-new → tie.Start
-start c = c.before.before.before.before.before.before
+start c = c.before.before.before.before.before.before.before.before
 
 row-ready : (c : tie.After-given_row-new) → let a = (start c).args in
     RowToMend a.size a.change a.row c.before.given_row-old.result c.given_row-new.result
@@ -26,12 +26,12 @@ mend-runs-requires : tie.Need-mend_runs-requires
 mend-runs-requires c κs =
     let second = c.before.before.before in
     let first = second.before.before in (
-      row-ready first.before.before,
+      row-ready first.before.before.before.before,
       (sym first.before.is_level.ensures ∙ first.if-is_level.true, sym second.before.is_level-then-is_level.ensures ∙ second.if-is_level-2.true),
     )
 
 mend-cells-requires : tie.Need-mend_cells-requires
-mend-cells-requires c κs = row-ready c.before.before.before.before.before
+mend-cells-requires c κs = row-ready c.before.before.before.before.before.before
 
 pub mend_row_spec : {M : Type 1} → statement M
 mend_row_spec =

@@ -48,7 +48,7 @@ give-run-requires c κs =
 level-amounts-requires-2 : tie.Need-level_amounts-requires-2
 level-amounts-requires-2 c κs =
     let s = c.before.before.before.before.before.before.before.before.before.before.before.before.before in
-    gives_few _ _ _ _ s.requires.0.ready.change.new_fits s.requires.0.New-is
+    gives_few _ _ _ _ s.requires.0.ready.change.new_fits s.requires.0.new_is
 
 give-run-requires-2 : tie.Need-give_run-requires-2
 give-run-requires-2 c κs =
@@ -86,16 +86,16 @@ add-first c = let made = c.before in omega (arith, (wide-in made).0, places-low 
 
 add-round-row : tie.Need-overflow_add-places
 add-round-row c =
-    let made = c.before.before.before.before.before in omega (arith, (wide-in made).0, places-low (start made))
+    let made = c.before.before.before.before in omega (arith, (wide-in made).0, places-low (start made))
 
 round-row-requires : tie.Need-round_row-requires
 round-row-requires c κs =
-    let made = c.before.before.before.before.before in
+    let made = c.before.before.before.before in
     let s = start made in
     let w = wide-in made in
-    let count = c.before.before.before.less.ensures in
-    let one = made.before.before.before.before.give-run2.ensures.same in
-    let two = made.before.before.before.before.before.before.before.before.before.give-run.ensures.same in
+    let count = c.before.before.less-count.ensures in
+    let one = made.before.before.before.before.give_run-2.ensures.same in
+    let two = made.before.before.before.before.before.before.before.before.before.give_run.ensures.same in
     record {
       values_in = omega (arith, w.0, w.1, count, s.requires.0.ready.values_are);
       mattes_in = omega (arith, w.0, w.1, count, s.requires.0.ready.mattes_are);
@@ -106,7 +106,7 @@ round-row-requires c κs =
 returns : tie.Need-returns
 returns c =
     let seen = c.before.before.before.before in
-    let made = seen.before.before.before.before.before.before in
+    let made = seen.before.before.before.before.before in
     let s = start made in
     let new = made.before.before.before.before in
     let old = new.before.before.before.before.before in
@@ -115,26 +115,26 @@ returns c =
     let a = s.args in
     let n = a.size.width * a.size.height in
     let from = a.row * a.size.width in
-    let first = narrow.before.cells-around in
-    let second = narrow.cells-around2 in
-    let wide = made.cells-around3 in
-    let by = old.before.opposite.ensures ∙ ap (λ (w : Amounts). times w (minus 1)) worth.level-amounts.ensures in
-    let count = seen.before.before.before.before.less.ensures in
+    let first = narrow.before.cells_around-old_run in
+    let second = narrow.cells_around-new_run in
+    let wide = made.cells_around-columns in
+    let by = old.before.opposite.ensures ∙ ap (λ (w : Amounts). times w (minus 1)) worth.level_amounts.ensures in
+    let count = seen.before.before.before.less-count.ensures in
     let taken : RunGiven n from first.result (times (level_amounts a.old) (minus 1)) a.sums.now
-    old.give-run.new.0 =
-    subst (λ w. RunGiven n from first.result w a.sums.now old.give-run.new.0) by old.give-run.ensures in
-    let given : RunGiven n from second.result (level_amounts a.new) old.give-run.new.0 new.give-run2.new.0 =
-    subst (λ w. RunGiven n from second.result w old.give-run.new.0 new.give-run2.new.0)
-    new.before.level-amounts2.ensures
-    new.give-run2.ensures in
-    let shown : RowShown new.give-run2.new.0 (from + wide.result.first) (n + (from + wide.result.first))
+    old.give_run.new.sums =
+    subst (λ w. RunGiven n from first.result w a.sums.now old.give_run.new.sums) by old.give_run.ensures in
+    let given : RunGiven n from second.result (level_amounts a.new) old.give_run.new.sums new.give_run-2.new.sums =
+    subst (λ w. RunGiven n from second.result w old.give_run.new.sums new.give_run-2.new.sums)
+    new.before.level_amounts-2.ensures
+    new.give_run-2.ensures in
+    let shown : RowShown new.give_run-2.new.sums (from + wide.result.first) (n + (from + wide.result.first))
     (from + wide.result.first)
-    (wide.result.past - wide.result.first) a.values.now seen.round_row.new.0 a.mattes.now
-    seen.round_row.new.1.0 =
+    (wide.result.past - wide.result.first) a.values.now seen.round_row.new.values a.mattes.now
+    seen.round_row.new.mattes =
     rw (← count) seen.round_row.ensures in
     runs_mended a.size a.change a.row a.old a.new (canvas a.sums.now a.values.now a.mattes.now)
     s.requires.0
-    s.requires.1.0 s.requires.1.1 first.result second.result wide.result _ made.before.greater.ensures
+    s.requires.1.0 s.requires.1.1 first.result second.result wide.result _ made.before.greater-span.ensures
     first.ensures
     second.ensures wide.ensures _ _ _ _ taken given shown
 

@@ -79,8 +79,8 @@ returns c =
     let second = second-down.before.before in
     let third-down = then second-down in
     let third = third-down.before.before in
-    boxed _ _ _ _ _ _ _ _ _ _ _ _ _ _ (first third-down).requires.third_first third.wrapping-add-u64.ensures
-    third-down.add-to.ensures second.add_three-second_across.ensures second-down.add_to-second_down.ensures c.add_three.ensures
+    boxed _ _ _ _ _ _ _ _ _ _ _ _ _ _ (first third-down).requires.third_first third.wrapping_add_u64-third_across.ensures
+    third-down.add_to-third_down.ensures second.add_three-second_across.ensures second-down.add_to-second_down.ensures c.add_three.ensures
 
 pub add_boxes_spec : {M : Type 1} → statement M
 add_boxes_spec =

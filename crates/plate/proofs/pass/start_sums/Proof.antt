@@ -40,7 +40,7 @@ made c = c.before.before.before.before
 abbrev cleared : tie.After-clear invariant-loop decreases-loop → List ℕ
 cleared c =
     let p = (start (made c)).args.channel in
-    put_mid p.sums (end (made c) - p.sums) (start (made c)).args.scratch.now c.clear.new.0
+    put_mid p.sums (end (made c) - p.sums) (start (made c)).args.scratch.now c.clear.new.cells
 
 only-sums : (c : tie.After-clear invariant-loop decreases-loop)
     → OnlySums (start (made c)).args.channel (start (made c)).args.scratch.now (cleared c)

@@ -132,12 +132,12 @@ add-to-requires c κs =
 add-x : tie.Need-overflow_step-x invariant-loop decreases-loop
 add-x c =
     let test = boxed (fallen (risen c.before.before.before.before.before.before.before)) in
-    omega (arith, test.loop-test.taken, fits test)
+    omega (arith, test.loop-x-test.true, fits test)
 
 loop-less : tie.Need-loop-x-smaller invariant-loop decreases-loop
 loop-less c =
     let test = boxed (fallen (risen c.before.before.before.before.before.before.before)) in
-    omega (arith, test.loop-test.taken)
+    omega (arith, test.loop-x-test.true)
 
 loop-again : tie.Need-loop-x-preserved invariant-loop decreases-loop
 loop-again c =
@@ -146,12 +146,12 @@ loop-again c =
     let falling = risen rising in
     let boxes = fallen falling in
     let test = boxed boxes in
-    let iteration = test.before.loop in
+    let iteration = test.before.loop-x in
     let start = test.before.before.before.before in (
-      omega (arith, test.loop-test.taken),
-      summing_next _ _ iteration.scratch _ _ _ _ _ _ _ iteration.x _ _ _ _ _ _ start.requires test.loop-test.taken
-          iteration.inv.1
-          boxes.add-boxes.ensures falling.add-marks.ensures rising.take_marks_off-rising.ensures
+      omega (arith, test.loop-x-test.true),
+      summing_next _ _ iteration.scratch _ _ _ _ _ _ _ iteration.x _ _ _ _ _ _ start.requires test.loop-x-test.true
+          iteration.invariant.1
+          boxes.add_boxes-sums.ensures falling.add_marks-falling.ensures rising.take_marks_off-rising.ensures
           down.before.add_three.ensures down.add_to.ensures,
     )
 

@@ -39,7 +39,7 @@ unfolding put_by changed
 returns c =
     let made = c.before.before.before.before.before in
     let h = made.exchange-marks.ensures in
-    rw (c.accepted.ensures, h.marks_are, h.planes_are, h.pixels_are, (packed made).pack-entry.ensures)
+    rw (c.accepted.ensures, h.marks_are, h.planes_are, h.pixels_are, (packed made).pack_entry.ensures)
 
 pub log_and_exchange_spec : {M : Type 1} → statement M
 log_and_exchange_spec =

@@ -48,7 +48,7 @@ returns c =
     let shown = seen.before.before.before.before.before in
     let summed = shown.before.before.before.before.before.before in
     let made = summed.before.before.before in
-    all_shown (start made).args.state _ _ shown.show_rows.new.1.1.0 _ _ _ _ _ (start made).requires
+    all_shown (start made).args.state _ _ shown.show_rows.new.scratch _ _ _ _ _ (start made).requires
     (omega (arith, seen.scratch-2-1.given, summed.sum_above.ensures.same))
     (omega (arith, seen.before.before.before.before.values-1.given))
     (omega (arith, seen.before.before.mattes-1.given))

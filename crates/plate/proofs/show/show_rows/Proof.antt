@@ -66,15 +66,15 @@ sum-both-requires c κs =
 
 mul-round-row : tie.Need-overflow_mul-row invariant-loop decreases-loop
 mul-round-row c =
-    let test = c.before.before.before.before.before.before.before in
+    let test = c.before.before.before.before.before.before in
     omega (arith, place_in test, (start (made test)).requires.values_are, (start (made test)).well_formed)
 
 round-row-requires : tie.Need-round_row-requires invariant-loop decreases-loop
 round-row-requires c κs =
-    let summed = c.before.before.before.before.before in
+    let summed = c.before.before.before.before in
     let test = summed.before.before in
     let pre = (start (made test)).requires in
-    let now = test.before.loop.invariant.1 in
+    let now = test.before.loop-row.invariant.1 in
     let place = place_in test in
     let from = sums-is (made test) in
     let same = summed.sum_both.ensures.same in
@@ -87,27 +87,27 @@ round-row-requires c κs =
 
 add_row : tie.Need-overflow_step-row invariant-loop decreases-loop
 add_row c =
-    let test = c.before.before.before.before.before.before.before.before.before.before.before.before in
+    let test = c.before.before.before.before.before.before.before.before.before.before.before in
     omega (arith, below test)
 
 loop-less : tie.Need-loop-row-smaller invariant-loop decreases-loop
 loop-less c =
-    let test = c.before.before.before.before.before.before.before.before.before.before.before.before in
-    omega (arith, test.loop-test.true)
+    let test = c.before.before.before.before.before.before.before.before.before.before.before in
+    omega (arith, test.loop-row-test.true)
 
 loop-again : tie.Need-loop-row-preserved invariant-loop decreases-loop
 loop-again c =
     let shown = c.before.before.before.before in
-    let summed = shown.before.before.before.before.before.before in
+    let summed = shown.before.before.before.before.before in
     let test = summed.before.before in
     let pre = (start (made test)).requires in
-    let iteration = test.before.loop in
+    let iteration = test.before.loop-row in
     let now = iteration.invariant.1 in
     let sums = summed.sum_both.ensures in
     let from = sums-is (made test) in
     let first = (start (made test)).args.image.first in
     let e : first + (iteration.row + 1) ≡ first + iteration.row + 1 = omega arith in (
-      omega (arith, test.loop-test.true),
+      omega (arith, test.loop-row-test.true),
       record {
         same_values = shown.round_row.ensures.in_values.same ∙ now.same_values;
         same_mattes = shown.round_row.ensures.in_mattes.same ∙ now.same_mattes;

@@ -29,7 +29,7 @@ sum-both-requires c κs =
     let pre = (start (laid iteration)).requires in
     let sums = iteration.loop-row.invariant.1 in
     record {
-      fits = both_on _ _ _ pre.fits _ (sums.same ∙ (laid iteration).lay-both.ensures.same);
+      fits = both_on _ _ _ pre.fits _ (sums.same ∙ (laid iteration).lay_both.ensures.same);
       low = omega (arith, c.before.loop-row-test.true, pre.low);
       to = sums.to;
     }
@@ -37,7 +37,7 @@ sum-both-requires c κs =
 add_row : tie.Need-overflow_step-row invariant-loop decreases-loop
 add_row c =
     let test = c.before.before.before.before in
-    omega (arith, test.loop-row-test.true, (start (laid test.before)).fits)
+    omega (arith, test.loop-row-test.true, (start (laid test.before)).well_formed)
 
 loop-less : tie.Need-loop-row-smaller invariant-loop decreases-loop
 loop-less c = omega (arith, c.before.before.before.before.loop-row-test.true)
@@ -54,7 +54,7 @@ returns c =
     let iteration = c.before in
     let e : iteration.loop-row.row ≡ (start (laid iteration)).args.rows = omega arith in
     let sums = rw e at iteration.loop-row.invariant.1 in
-    record { same = sums.same ∙ (laid iteration).lay-both.ensures.same; to = sums.to }
+    record { same = sums.same ∙ (laid iteration).lay_both.ensures.same; to = sums.to }
 
 pub sum_above_spec : {M : Type 1} → statement M
 sum_above_spec =

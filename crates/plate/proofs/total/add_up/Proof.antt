@@ -32,10 +32,10 @@ down_is c = ap (λ (s : Starts). s.down) c.starts_at-starts.ensures
 
 -- the scratch is as long as it was
 same_as : (c : tie.At-loop-row invariant-loop decreases-loop) → length c.loop-row.scratch ≡ length (start c.before).args.scratch.now
-same_as c = c.loop-row.invariant.1.0.same ∙ (laid c.before).start-sums.ensures.only.same
+same_as c = c.loop-row.invariant.1.0.same ∙ (laid c.before).start_sums.ensures.only.same
 
 loop-holds : tie.Need-loop-row-init invariant-loop decreases-loop
-loop-holds c = (search rules, (added_start _ _ _, (laid c).start-sums.ensures.to))
+loop-holds c = (search rules, (added_start _ _ _, (laid c).start_sums.ensures.to))
 
 sum-next-requires : tie.Need-sum_next-requires invariant-loop decreases-loop
 sum-next-requires c κs =
@@ -48,34 +48,34 @@ sum-next-requires c κs =
 
 add-cells-requires : tie.Need-add_cells-sum-requires invariant-loop decreases-loop
 add-cells-requires c κs =
-    let summed = c.before.before.before in
+    let summed = c.before.before in
     let iteration = summed.before.before.before in
     omega (
       arith,
       down_is iteration.before,
-      summed.sum-next.ensures.only.same,
+      summed.sum_next.ensures.only.same,
       same_as iteration,
       (start iteration.before).requires.sums_in,
     )
 
 add_row : tie.Need-overflow_step-row invariant-loop decreases-loop
 add_row c =
-    let test = c.before.before.before.before.before.before in
-    omega (arith, test.loop-test.true, (start test.before.before).well_formed)
+    let test = c.before.before.before.before.before in
+    omega (arith, test.loop-row-test.true, (start test.before.before).well_formed)
 
 loop-less : tie.Need-loop-row-smaller invariant-loop decreases-loop
-loop-less c = omega (arith, c.before.before.before.before.before.before.loop-test.true)
+loop-less c = omega (arith, c.before.before.before.before.before.loop-row-test.true)
 
 loop-again : tie.Need-loop-row-preserved invariant-loop decreases-loop
 loop-again c =
-    let summed = c.before.before.before.before in
+    let summed = c.before.before.before in
     let test = summed.before.before in
     let iteration = test.before in
-    let sums = summed.sum-next.ensures in (
-      omega (arith, test.loop-test.true),
+    let sums = summed.sum_next.ensures in (
+      omega (arith, test.loop-row-test.true),
       (
-        added_next _ _ _ iteration.loop.scratch _ iteration.loop.row iteration.loop.sum _ _
-            iteration.loop.invariant.1.0 sums.only.same sums.to
+        added_next _ _ _ iteration.loop-row.scratch _ iteration.loop-row.row iteration.loop-row.sum _ _
+            iteration.loop-row.invariant.1.0 sums.only.same sums.to
             (down_is iteration.before) c.add_cells-sum.ensures,
         sums.to,
       ),

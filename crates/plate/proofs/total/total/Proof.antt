@@ -8,7 +8,7 @@ use Rattle.plate.proofs.total.total.Statement.{statement}
 use Rattle.plate.proofs.total.total.Tie as tie
 
 abbrev start : tie.In-Accepted → tie.Start
-start c = c.before.before.before.before
+start c = c.before.before.before.before.before
 
 -- the check passed
 passed : (c : tie.In-Accepted)

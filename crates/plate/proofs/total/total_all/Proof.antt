@@ -10,7 +10,7 @@ use Rattle.plate.proofs.total.total_all.Statement.{statement}
 use Rattle.plate.proofs.total.total_all.Tie as tie
 
 abbrev start : tie.After-frame_of-frame → tie.Start
-start c = c.before.before.before
+start c = c.before.before.before.before
 
 -- where light's marks start, and where matte's do
 light-from : (c : tie.After-frame_of-frame) → 0 ≡ 0 * padded (start c).args.state.size
@@ -47,7 +47,7 @@ returns c =
     let two = cleared.before.before.before.before in
     let one = two.before.before.before.before.before in
     let framed = one.before.before in
-    all_totalled (start framed).args.state _ _ two.add_up-matte.new.0 _ _ _
+    all_totalled (start framed).args.state _ _ two.add_up-matte.new.scratch _ _ _
     (two.add_up-matte.ensures.same ∙ one.add_up-light.ensures.same)
     cleared.clear.ensures
     (held_is _ _ _ _ planes_each _ _ _ framed.frame_of-frame.ensures (matte-from framed) two.add_up-matte.ensures)

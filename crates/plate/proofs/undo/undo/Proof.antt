@@ -10,7 +10,7 @@ use Rattle.plate.proofs.undo.undo.Tie as tie
 
 -- where the call starts, and what it is lent
 abbrev start : tie.After-read_undo → tie.Start
-start c = c.before.before.before.before.before.before
+start c = c.before.before.before.before
 
 abbrev held : tie.Start → Lent
 held s = lent s.args.planes.now s.args.pixels.now s.args.log.now
@@ -18,7 +18,7 @@ held s = lent s.args.planes.now s.args.pixels.now s.args.log.now
 -- the change that was read
 reads : (c : tie.In-ToChange)
     → let s = start c.before in
-    undo_read s.args.state (lengths_of (held s)) (held s).pixels (held s).log ≡ ToChange c.in-ToChange.given.0.0
+    undo_read s.args.state (lengths_of (held s)) (held s).pixels (held s).log ≡ ToChange c.in-ToChange.change
 reads c = sym c.before.read_undo.ensures ∙ c.in-ToChange.is
 
 unlog-and-exchange-requires : tie.Need-unlog_and_exchange-requires

@@ -16,7 +16,7 @@ start c = c.before.before.before
 -- past the shape's test
 known : (c : tie.In-Known)
     → read_word (start c).args.reach (start c).args.word
-    ≡ pixel_in (start c).args.reach (start c).args.word (Known c.in-Known.given.0.0)
+    ≡ pixel_in (start c).args.reach (start c).args.word (Known c.in-Known.shape)
 known c = low_word _ _ _ (omega arith) (sym (shape_read_lem _ _ c.before.shape_of.ensures) ∙ c.in-Known.is)
 
 returns : tie.Need-returns-then-word-ne0
