@@ -1,5 +1,5 @@
-//! Links the proved engine, `liblens_c.a`, which `rt staticlib lens_c` writes to the
-//! repository's target/staticlib. `LENS_C_DIR`, an absolute path, names another folder.
+//! Links the proved engine, `liblens_c.a`, which `rt lib`, called in the repository's
+//! crates/lens_c, writes to out/ there. `LENS_C_DIR`, an absolute path, names another folder.
 
 use std::env;
 use std::ffi::OsString;
@@ -19,7 +19,7 @@ fn main() {
 fn folder(named: Option<OsString>) -> Result<PathBuf, String> {
     let Some(named) = named.filter(|named| !named.is_empty()).map(PathBuf::from) else {
         let repository = Path::new(env!("CARGO_MANIFEST_DIR")).ancestors().nth(2);
-        return Ok(repository.expect("this crate is rust/lens").join("target/staticlib"));
+        return Ok(repository.expect("this crate is rust/lens").join("crates/lens_c/out"));
     };
     if named.is_absolute() {
         return Ok(named);
@@ -38,8 +38,8 @@ fn link(folder: &Path) {
     println!("cargo::rerun-if-changed={}", archive.display());
     if !archive.is_file() {
         println!(
-            "cargo::warning=there is no {}, so nothing can be linked: run `rt staticlib \
-             lens_c` first, or set LENS_C_DIR to the folder that has it",
+            "cargo::warning=there is no {}, so nothing can be linked: run `rt lib` in \
+             crates/lens_c first, or set LENS_C_DIR to the folder that has it",
             archive.display()
         );
     }

@@ -14,7 +14,7 @@ use records_model::record::{PlacedPixel, Shapeless};
 use records_model::request::{PutRequest, Request};
 
 // The cells of a padded plane and the places of a plate; none where the cells are more than there is room for.
-#[derive(Drop)]
+#[derive(Clone, Copy)]
 pub(crate) struct LentCounts {
     pub cells: usize,
     pub places: usize,

@@ -320,7 +320,7 @@ fn kept_kernels() -> impl Iterator<Item = (Shape, usize, usize)> {
 fn record_line() {
     println!("## The record program\n");
     let Some(streamed) = records::run() else {
-        println!("There is no target/bin/lens_records; `rt check lens_records` builds it.");
+        println!("There is no crates/lens_records/out/lens_records; `rt run` builds it there.");
         return;
     };
     let megabytes = streamed.bytes as f64 / 1e6;

@@ -114,7 +114,7 @@ impl Language {
 /// Where the engine's archive lies, as the wrapper's build finds it.
 pub fn archive_folder() -> PathBuf {
     let named = env::var_os("LENS_C_DIR").filter(|named| !named.is_empty());
-    named.map_or_else(|| repository().join("target/staticlib"), PathBuf::from)
+    named.map_or_else(|| repository().join("crates/lens_c/out"), PathBuf::from)
 }
 
 /// Runs a command that must end well, and gives what it writes.

@@ -43,7 +43,7 @@ fn readme_line() -> (String, PathBuf) {
 fn built_by_readme() -> PathBuf {
     let (line, program) = readme_line();
     let archives = archive_folder();
-    let line = line.replace("target/staticlib", archives.to_str().expect("a plain path"));
+    let line = line.replace("crates/lens_c/out", archives.to_str().expect("a plain path"));
     done(Command::new("sh").args(["-c", &line]).current_dir(repository()));
     program
 }

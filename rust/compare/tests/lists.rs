@@ -31,16 +31,25 @@ fn random_lists<E: Engine>(seed: u64, lists: usize) {
     assert_eq!(tally.numbers.refusals(), REFUSALS, "{}", E::NAME);
 }
 
+/// A show and a total end it.
 fn random_list<E: Engine>(sizes: State, random: &mut Random, tally: &mut Tally) {
+    let State { width, height, reach, .. } = sizes;
+    let last = [Step::show(width, height, reach), Step::total(width, height, reach)];
+    random_list_and::<E>(&last, sizes, random, tally);
+}
+
+fn random_list_and<E: Engine>(
+    last: &[Step],
+    sizes: State,
+    random: &mut Random,
+    tally: &mut Tally,
+) {
     let State { width, height, reach, .. } = sizes;
     let room = random.pick(&[0, 1, 2, 5, 20]);
     let calls = random.within(1, 24);
     let mut maker = Maker { random, width, height, reach };
     let mut steps: Vec<Step> = (0..calls).map(|_| maker.step()).collect();
-    let show = Step::show(width, height, reach);
-    steps.push(show.clone().kept(width * height));
-    steps.push(show);
-    steps.push(Step::total(width, height, reach));
+    steps.extend_from_slice(last);
     run::<E>(sizes, room, &steps, random, tally);
 }
 
@@ -68,7 +77,10 @@ fn plates_of_parts<E: Engine>(lists: usize) {
         [0, 1, 64].into_iter().flat_map(|reach| PART_WIDTHS.map(|width| (width, reach)));
     for (width, reach) in sizes.cycle().take(lists * 3 * PART_WIDTHS.len()) {
         let height = random.within(1, 4);
-        random_list::<E>(State { width, height, reach, count: 0 }, random, tally);
+        let show = Step::show(width, height, reach);
+        let kept = show.clone().kept(width * height);
+        let last = [kept, show, Step::total(width, height, reach)];
+        random_list_and::<E>(&last, State { width, height, reach, count: 0 }, random, tally);
     }
     say(&format!("{}, plates of parts: {tally}", E::NAME));
 }

@@ -1,6 +1,6 @@
 //! The record program on byte strings, against the reference's text.
 //!
-//! The program is target/bin/lens_records of the repository, or what `LENS_RECORDS` names;
+//! The program is crates/lens_records/out/lens_records, or what `LENS_RECORDS` names;
 //! where it is not there, the comparison fails.
 #![cfg(feature = "proved")]
 
@@ -23,11 +23,11 @@ const STRINGS: usize = 1_500;
 const STREAM: usize = 6_500_000;
 
 fn program() -> PathBuf {
-    let built = repository().join("target/bin/lens_records");
+    let built = repository().join("crates/lens_records/out/lens_records");
     let program = env::var_os("LENS_RECORDS").map_or(built, PathBuf::from);
     assert!(
         program.is_file(),
-        "no {}: build it by `rt check lens_records`, or name another in LENS_RECORDS",
+        "no {}: build it by `rt run` in crates/lens_records, or name another in LENS_RECORDS",
         program.display(),
     );
     program
@@ -310,7 +310,10 @@ fn readme_shows_what_it_prints() {
         .map_while(|line| line.strip_prefix("    "))
         .map(|line| format!("{line}\n"))
         .collect();
-    let typed = typed.replace("target/bin/lens_records", program().to_str().expect("plain"));
+    let typed = typed.replace(
+        "crates/lens_records/out/lens_records",
+        program().to_str().expect("plain"),
+    );
     let output = Command::new("sh").args(["-c", &typed]).output().expect("sh starts");
     assert_eq!(String::from_utf8_lossy(&output.stdout), printed);
     assert!(printed.ends_with("done 6\n"));

@@ -18,6 +18,7 @@ mod sums;
 mod total;
 mod word;
 
+use divide::Half;
 use kernel::{Pen, Worths};
 use layout::Layout;
 use word::Pixel;
@@ -228,8 +229,8 @@ fn radius(lens: Lens, depth: u32, top: u64) -> u8 {
     let above = 500 * opening * focal;
     let below = pitch * (focus - focal);
     if depth == 0 {
-        divide::nearest(above, below, top) as u8
+        divide::nearest(above, below, Half::Up, top) as u8
     } else {
-        divide::nearest(above * depth.abs_diff(focus), below * depth, top) as u8
+        divide::nearest(above * depth.abs_diff(focus), below * depth, Half::Up, top) as u8
     }
 }

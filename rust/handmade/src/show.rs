@@ -4,6 +4,7 @@
 //! with the same accumulators. The finished sums of both are kept meanwhile, at the front of
 //! the scratch, or where the second form of the call hands them out.
 
+use crate::divide::{self, Half};
 use crate::layout::Layout;
 use crate::sums::{PART, Sums};
 use crate::{Answer, State, check, refused};
@@ -97,15 +98,8 @@ pub(crate) fn round(light: &[u64], matte: &[u64], values: &mut [u16], mattes: &m
     for ((value, shown_matte), (&light, &matte)) in shown.zip(light.iter().zip(matte)) {
         *value = match matte {
             0 => 0,
-            _ => nearest_even(light, matte).min(4_095) as u16,
+            _ => divide::nearest(light, matte, Half::Even, 4_095) as u16,
         };
         *shown_matte = ((matte >> 23) + (matte >> 22 & 1)).min(255) as u8;
     }
-}
-
-/// light / matte to the nearest, a half to the even one.
-#[inline]
-fn nearest_even(light: u64, matte: u64) -> u64 {
-    let (lower, rest) = (light / matte, light % matte);
-    lower + u64::from(matte - rest < rest + lower % 2)
 }

@@ -111,11 +111,18 @@ impl<'a> Reader<'a> {
         Ok(&self.tokens[start..self.at])
     }
 
+    /// Of those of a whole file `#![tactic(..)]` alone is known, which only the prover reads.
     fn skip_attributes(&mut self) -> Result<(), String> {
         while self.skip("#") {
+            self.at += usize::from(self.at_words(&["!", "[", "tactic"]));
             self.group()?;
         }
         Ok(())
+    }
+
+    fn at_words(&self, words: &[&str]) -> bool {
+        let here = &self.tokens[self.at..];
+        words.len() <= here.len() && words.iter().zip(here).all(|(word, token)| token.is(word))
     }
 
     fn skip_visibility(&mut self) -> Result<(), String> {

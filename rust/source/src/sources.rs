@@ -1,5 +1,6 @@
 //! The texts of crates, and which crates each of them names.
 
+use crate::program::STANDARD;
 use std::collections::BTreeMap;
 use std::path::{Path, PathBuf};
 use std::process::Command;
@@ -18,23 +19,27 @@ pub fn repository() -> PathBuf {
 }
 
 impl Sources {
-    /// The crates of the repository and the libraries of the toolchain.
+    /// The crates of the repository, and of `std` the functions of its module `num`, which is a
+    /// file of the toolchain's `core`. A name of another module of `std` is not found.
     pub fn installed() -> io::Result<Sources> {
         let mut sources = Sources::default();
         sources.read(&repository().join("crates.txt"), &repository().join("crates"))?;
-        let libraries = libraries()?;
-        sources.read(&libraries.join("libs.txt"), &libraries)?;
+        let numbers = fs::read_to_string(toolchain()?.join("rattle/core/src/num.rt"))?;
+        sources.name(STANDARD, "");
+        sources.add(&format!("{STANDARD}/src/lib.rt"), "pub mod num;");
+        sources.add(&format!("{STANDARD}/src/num.rt"), &functions_alone(&numbers));
         Ok(sources)
     }
 
     /// The crates of a list, `NAME: NEED NEED` in a line, from a folder with a folder for each.
+    /// A word after the name says what kind of library it is.
     pub fn read(&mut self, list: &Path, folder: &Path) -> io::Result<()> {
         for line in fs::read_to_string(list)?.lines() {
             let line = line.split('#').next().unwrap_or(line);
             let Some((name, needs)) = line.split_once(':') else {
                 continue;
             };
-            let name = name.trim();
+            let name = name.split_whitespace().next().unwrap_or_default();
             self.name(name, needs);
             self.read_folder(&folder.join(name).join("src"), &format!("{name}/src"))?;
         }
@@ -87,10 +92,23 @@ impl Sources {
     }
 }
 
-/// The toolchain's libraries, which stand beside the folder of the guide that `rt doc` names.
-fn libraries() -> io::Result<PathBuf> {
-    let guide = Command::new("rt").arg("doc").output()?.stdout;
-    let guide = PathBuf::from(String::from_utf8_lossy(&guide).trim());
-    let kit = guide.ancestors().nth(2).ok_or(io::ErrorKind::NotFound)?;
-    Ok(kit.join("libs"))
+/// The toolchain's folder: that of the page that `rt doc` names.
+pub fn toolchain() -> io::Result<PathBuf> {
+    let page = Command::new("rt").arg("doc").output()?.stdout;
+    let page = PathBuf::from(String::from_utf8_lossy(&page).trim());
+    Ok(page.parent().ok_or(io::ErrorKind::NotFound)?.to_path_buf())
+}
+
+/// The public functions of a text in `rt fmt`'s layout, each in its own lines; the other lines are
+/// left empty.
+fn functions_alone(text: &str) -> String {
+    let mut inside = false;
+    let mut kept = String::new();
+    for line in text.lines() {
+        inside |= line.starts_with("pub fn ");
+        kept.push_str(if inside { line } else { "" });
+        kept.push('\n');
+        inside &= line != "}";
+    }
+    kept
 }

@@ -14,8 +14,8 @@ const NUMBERS: [&str; 13] = [
     "bool",
 ];
 
-/// What a slice has of its own.
-const LENGTH: &str = "len";
+/// What a slice has of its own, and a number.
+const OWN: [&str; 3] = ["len", "wrapping_add", "wrapping_sub"];
 
 #[derive(Clone, Debug, PartialEq, Eq)]
 pub enum What {
@@ -136,7 +136,7 @@ impl<'a> Walk<'a> {
     fn methods(&self, mention: &Mention) -> Option<Vec<usize>> {
         let name = &mention.path[0];
         let found = self.program.methods(name);
-        (name == LENGTH || !found.is_empty()).then_some(found)
+        (OWN.contains(&name.as_str()) || !found.is_empty()).then_some(found)
     }
 
     /// The item that a path names, or none for a number's own or for a local value. Functions are

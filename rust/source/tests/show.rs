@@ -66,7 +66,7 @@ fn no_function_of_a_show_or_a_total_has_an_array() {
         .expect("standard error can be written");
 }
 
-/// In the function that raises a cell by a sum, nine calls below show and seven below total: the
+/// In the function that raises a cell by a sum, six calls below show and five below total: the
 /// shorter way is told.
 #[test]
 fn an_array_deep_below_them_is_found_and_named() {
@@ -79,8 +79,7 @@ fn an_array_deep_below_them_is_found_and_named() {
     let told: Vec<String> = faults.iter().map(Fault::to_string).collect();
     let line = 1 + text[..raised].matches('\n').count();
     let above = "plate::total::total, plate::total::total_all, plate::total::add_up, \
-                 plate::total::add_rows, plate::pass::sum_row, plate::pass::sum_part, \
-                 plate::pass::sum_rising";
+                 plate::pass::sum_next, plate::pass::sum_row";
     assert_eq!(told, [format!("plate::pass::add_to has an array ({file}:{line}), by {above}")]);
 }
 
@@ -120,12 +119,11 @@ fn a_call_that_is_renamed_is_not_found() {
 #[test]
 fn a_function_that_is_renamed_or_not_brought_in_is_not_found() {
     let engine = engine();
-    let [show_all, keep_all, total_all, start_sums, start_again] = [
+    let [show_all, keep_all, total_all, start_sums] = [
         "plate::show::show_all",
         "plate::kept::keep_all",
         "plate::total::total_all",
         "plate::pass::start_sums",
-        "plate::pass::start_again",
     ];
     let (definition, renamed) = ("pub(crate) fn clear(", "pub(crate) fn clean(");
     let import = "use crate::clear::clear;";
@@ -134,12 +132,11 @@ fn a_function_that_is_renamed_or_not_brought_in_is_not_found() {
             "plate/src/clear.rt",
             definition,
             renamed,
-            &[show_all, keep_all, total_all, start_sums, start_again][..],
+            &[show_all, keep_all, total_all, start_sums][..],
         ),
         ("plate/src/show.rt", import, "", &[show_all]),
         ("plate/src/kept.rt", import, "", &[keep_all]),
-        ("plate/src/total.rt", import, "", &[total_all]),
-        ("plate/src/pass.rt", import, "", &[start_sums, start_again]),
+        ("plate/src/pass.rt", import, "", &[start_sums]),
     ] {
         let at = engine.text(file).and_then(|text| text.find(old)).expect("the old text");
         let faults =

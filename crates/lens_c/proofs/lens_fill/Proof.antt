@@ -8,7 +8,7 @@ use Rattle.lens_c.proofs.lens_fill.Tie as tie
 returns : tie.Need-returns
 returns c =
     let called = c.before.before.before.before.before.before.before in
-    rw (c.answer-out.ensures, ← called.before.before.before.before.state-in.ensures) (ap left_out called.fill.ensures)
+    rw (c.answer_out.ensures, ← called.before.before.before.before.state_in.ensures) (ap left_out called.fill.ensures)
 
 pub lens_fill_spec : {M : Type 1} → statement M
 lens_fill_spec =

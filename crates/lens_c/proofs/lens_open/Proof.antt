@@ -6,7 +6,7 @@ use Rattle.lens_c.proofs.lens_open.Statement.{statement}
 use Rattle.lens_c.proofs.lens_open.Tie as tie
 
 returns : tie.Need-returns
-returns c = rw c.answer-out.ensures (ap left_out c.before.before.before.before.before.before.before.«open».ensures)
+returns c = rw c.answer_out.ensures (ap left_out c.before.before.before.before.before.before.before.«open».ensures)
 
 pub lens_open_spec : {M : Type 1} → statement M
 lens_open_spec =

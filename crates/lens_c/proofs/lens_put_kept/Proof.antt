@@ -8,8 +8,8 @@ use Rattle.lens_c.proofs.lens_put_kept.Tie as tie
 returns : tie.Need-returns
 returns c =
     let called = c.before.before.before.before.before.before.before.before.before.before.before.before.before in
-    rw (c.answer-out.ensures, ← called.before.before.before.before.before.before.before.state-in.ensures)
-    (ap refreshed_out called.put-kept.ensures)
+    rw (c.answer_out.ensures, ← called.before.before.before.before.before.before.before.state_in.ensures)
+    (ap refreshed_out called.put_kept.ensures)
 
 pub lens_put_kept_spec : {M : Type 1} → statement M
 lens_put_kept_spec =

@@ -8,7 +8,7 @@ use Rattle.lens_c.proofs.lens_show.Tie as tie
 returns : tie.Need-returns
 returns c =
     let called = c.before.before.before.before.before.before.before in
-    rw (c.answer-out.ensures, ← called.before.before.before.before.state-in.ensures) (ap shown_out called.show.ensures)
+    rw (c.answer_out.ensures, ← called.before.before.before.before.state_in.ensures) (ap shown_out called.show.ensures)
 
 pub lens_show_spec : {M : Type 1} → statement M
 lens_show_spec =

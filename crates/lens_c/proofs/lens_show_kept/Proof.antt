@@ -8,8 +8,8 @@ use Rattle.lens_c.proofs.lens_show_kept.Tie as tie
 returns : tie.Need-returns
 returns c =
     let called = c.before.before.before.before.before.before.before.before.before in
-    rw (c.answer-out.ensures, ← called.before.before.before.before.before.state-in.ensures)
-    (ap shown_kept_out called.show-kept.ensures)
+    rw (c.answer_out.ensures, ← called.before.before.before.before.before.state_in.ensures)
+    (ap shown_kept_out called.show_kept.ensures)
 
 pub lens_show_kept_spec : {M : Type 1} → statement M
 lens_show_kept_spec =

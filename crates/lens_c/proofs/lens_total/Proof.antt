@@ -8,7 +8,7 @@ use Rattle.lens_c.proofs.lens_total.Tie as tie
 returns : tie.Need-returns
 returns c =
     let called = c.before.before.before in
-    rw (c.totals-out.ensures, ← called.before.before.state-in.ensures) (ap totalled_out called.total.ensures)
+    rw (c.totals_out.ensures, ← called.before.before.state_in.ensures) (ap totalled_out called.total.ensures)
 
 pub lens_total_spec : {M : Type 1} → statement M
 lens_total_spec =

@@ -8,7 +8,7 @@ use Rattle.lens_c.proofs.lens_undo.Tie as tie
 returns : tie.Need-returns
 returns c =
     let called = c.before.before.before.before.before.before.before in
-    rw (c.answer-out.ensures, ← called.before.before.before.before.state-in.ensures) (ap left_out called.undo.ensures)
+    rw (c.answer_out.ensures, ← called.before.before.before.before.state_in.ensures) (ap left_out called.undo.ensures)
 
 pub lens_undo_spec : {M : Type 1} → statement M
 lens_undo_spec =

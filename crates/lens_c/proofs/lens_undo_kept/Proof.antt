@@ -8,8 +8,8 @@ use Rattle.lens_c.proofs.lens_undo_kept.Tie as tie
 returns : tie.Need-returns
 returns c =
     let called = c.before.before.before.before.before.before.before.before.before.before.before.before.before in
-    rw (c.answer-out.ensures, ← called.before.before.before.before.before.before.before.state-in.ensures)
-    (ap refreshed_out called.undo-kept.ensures)
+    rw (c.answer_out.ensures, ← called.before.before.before.before.before.before.before.state_in.ensures)
+    (ap refreshed_out called.undo_kept.ensures)
 
 pub lens_undo_kept_spec : {M : Type 1} → statement M
 lens_undo_kept_spec =

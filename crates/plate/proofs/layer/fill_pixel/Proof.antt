@@ -1,5 +1,5 @@
 -- A lawful lens gives a lawful depth a radius up to the top; `lay_pixel` lays, and `pack` packs.
-use Rattle.std.proofs.Common.{◌≡◌, min, ◌∙◌, ⊎_elim, arith, rules}
+use Rattle.std.proofs.Common.{◌≡◌, min, ◌∙◌, arith, rules}
 use Rattle.kernels_model.specs.Lens.{blur}
 use Rattle.kernels_model.proofs.Taps.Shares.{table_share_lem}
 use Rattle.kernels_model.proofs.Lenses.ThinLens.{radius_read}

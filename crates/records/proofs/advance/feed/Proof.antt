@@ -7,10 +7,10 @@ use Rattle.records.proofs.advance.feed.Statement.{statement}
 use Rattle.records.proofs.advance.feed.Tie as tie
 
 -- where the byte is taken in, and where the call starts
-abbrev took : tie.After-perform → tie.After-take
+abbrev took : tie.After-perform-effect → tie.After-take-taken
 took c = c.before.before.before.before.before.before.before.before
 
-abbrev start : tie.After-take → tie.Start
+abbrev start : tie.After-take-taken → tie.Start
 start c = c.before.before.before
 
 -- what it is lent
@@ -19,23 +19,23 @@ held s =
     let a = s.args in
     buffers a.planes.now a.pixels.now a.log.now a.scratch.now a.values.now a.mattes.now
 
-reply-requires : tie.Need-reply-requires
+reply-requires : tie.Need-reply-written-requires
 reply-requires c κs =
-    let done = c.before.before.before in
-    record { out-room = (start (took done)).requires.fits; few-cells = done.perform.ensures.few_cells }
+    let done = c.before in
+    record { out_room = (start (took done)).requires.fits; few_cells = done.perform-effect.ensures.few_cells }
 
-add-t29 : tie.Need-overflow-add-t29
+add-t29 : tie.Need-overflow_add-result
 add-t29 c =
-    let s = start (took c.before.before.before.before.before.before.before.before) in
-    omega (arith, s.pre.counted)
+    let s = start (took c.before.before.before.before.before.before) in
+    omega (arith, s.requires.counted)
 
 returns : tie.Need-returns
 returns c =
-    let done = c.before.before.before.before.before.before.before.before in
-    let take = (took done).take in
+    let done = c.before.before.before.before.before.before in
+    let take = (took done).take-taken in
     let s = start (took done) in
-    fed-one s.args.before s.args.byte (held s) take.result done.perform.result
-    take.ensures done.perform.ensures.done c.before.moved.ensures c.before.before.before.before.reply.ensures
+    fed-one s.args.before s.args.byte (held s) take.result done.perform-effect.result
+    take.ensures done.perform-effect.ensures.done c.before.moved.ensures c.before.before.before.before.reply-written.ensures
 
 pub feed_spec : {M : Type 1} → statement M
 feed_spec =

@@ -8,26 +8,26 @@ use Rattle.records.proofs.machine.begun.Statement.{statement}
 use Rattle.records.proofs.machine.begun.Tie as tie
 
 -- where the call starts, seen from where the length is known
-abbrev start : tie.After-body-length → tie.Start
+abbrev start : tie.After-body_length → tie.Start
 start c = c.before.before.before.before.before
 
-returns : tie.Need-returns
+returns : tie.Need-returns-then-m-ge18446744073709551615
 unfolding begun_of
 returns c = let m = c.before.before.before.args.m in rw (le-ltb m.count (2 ^ 64 - 1) (omega arith))
 
-returns-2 : tie.Need-returns-2
+returns-2 : tie.Need-returns-in-Bytes
 unfolding begun_of begun_by
 returns-2 c =
-    let known = c.before.before.before.before in
+    let known = c.before.before in
     let m = (start known).args.m in
-    rw (lt-ltb m.count (2 ^ 64 - 1) (omega arith), ← known.body-length.ensures, c.before.before.n.given.1)
+    rw (lt-ltb m.count (2 ^ 64 - 1) (omega arith), ← known.body_length.ensures, c.before.in-Bytes.is)
     c.settled.ensures
 
-returns-3 : tie.Need-returns-3
+returns-3 : tie.Need-returns-in-NoKind
 unfolding begun_of begun_by
 returns-3 c =
-    let m = (start c.before.before).args.m in
-    rw (lt-ltb m.count (2 ^ 64 - 1) (omega arith), ← c.before.before.body-length.ensures, c.enum_told.given.1)
+    let m = (start c.before).args.m in
+    rw (lt-ltb m.count (2 ^ 64 - 1) (omega arith), ← c.before.body_length.ensures, c.in-NoKind.is)
 
 pub begun_spec : {M : Type 1} → statement M
 begun_spec =

@@ -7,11 +7,11 @@ use borrow.Author.Rules.{rules}
 use Rattle.records.proofs.machine.carried.Statement.{statement}
 use Rattle.records.proofs.machine.carried.Tie as tie
 
-returns : tie.Need-returns
+returns : tie.Need-returns-then-held-ge-BODY
 unfolding carried_of
 returns c = let m = c.before.before.args.m in rw (le-ltb m.held longest_body (omega arith))
 
-returns-2 : tie.Need-returns-2
+returns-2 : tie.Need-returns
 unfolding carried_of
 returns-2 c = let m = c.before.before.before.args.m in rw (lt-ltb m.held longest_body (omega arith)) c.settled.ensures
 

@@ -7,16 +7,16 @@ use Rattle.records.proofs.machine.end.Statement.{statement}
 use Rattle.records.proofs.machine.end.Tie as tie
 
 -- where the call starts, seen from the test
-abbrev start : tie.After-struct-known → tie.Start
+abbrev start : tie.After-struct_known-1 → tie.Start
 start c = c.before.before
 
-returns : tie.Need-returns
+returns : tie.Need-returns-then-m
 unfolding end_text
 returns c =
     let m = (start c.before.before.before.before.before).args.m in
     rw (lt-ltb m.held m.whole (omega arith)) c.before.before.stopped.ensures
 
-returns-2 : tie.Need-returns-2
+returns-2 : tie.Need-returns
 unfolding end_text
 returns-2 c =
     let m = (start c.before.before.before.before.before).args.m in

@@ -5,17 +5,17 @@ use borrow.Author.Rules.{rules}
 use Rattle.records.proofs.machine.finish.Statement.{statement}
 use Rattle.records.proofs.machine.finish.Tie as tie
 
-returns : tie.Need-returns
+returns : tie.Need-returns-then-ended
 unfolding finish_call finish_of
 returns c =
     let out = c.before.before.args.out.now in
-    rw (← c.before.ended.ensures, c.if1.true) (finished_nothing out)
+    rw (← c.before.ended.ensures, c.if-ended.true) (finished_nothing out)
 
-returns-2 : tie.Need-returns-2
+returns-2 : tie.Need-returns
 unfolding finish_call finish_of
 returns-2 c =
     let m = c.before.before.before.before.args.m in
-    rw (← c.before.before.before.ended.ensures, c.before.before.if1.false) (finished_is (end_text m) c.end.ensures)
+    rw (← c.before.before.before.ended.ensures, c.before.before.if-ended.false) (finished_is (end_text m) c.end.ensures)
 
 pub finish_spec : {M : Type 1} → statement M
 finish_spec = tie.close (tie.spec (λ c κs. search rules) returns (λ c κs. search rules) returns-2)

@@ -6,23 +6,23 @@ use borrow.Author.Rules.{rules}
 use Rattle.records.proofs.machine.take.Statement.{statement}
 use Rattle.records.proofs.machine.take.Tie as tie
 
-returns : tie.Need-returns
+returns : tie.Need-returns-then-ended
 unfolding taken_of
-returns c = rw (← c.before.ended.ensures, c.if1.true)
+returns c = rw (← c.before.ended.ensures, c.if-ended.true)
 
-returns-2 : tie.Need-returns-2
+returns-2 : tie.Need-returns-then-m
 unfolding taken_of
 returns-2 c =
     let h = c.before.before.before in
     let m = h.before.before.args.m in
-    rw (← h.before.ended.ensures, h.if1.false, lt-ltb m.held m.whole (omega arith)) c.carried.ensures
+    rw (← h.before.ended.ensures, h.if-ended.false, lt-ltb m.held m.whole (omega arith)) c.carried.ensures
 
-returns-3 : tie.Need-returns-3
+returns-3 : tie.Need-returns
 unfolding taken_of
 returns-3 c =
     let h = c.before.before.before in
     let m = h.before.before.args.m in
-    rw (← h.before.ended.ensures, h.if1.false, le-ltb m.held m.whole (omega arith)) c.begun.ensures
+    rw (← h.before.ended.ensures, h.if-ended.false, le-ltb m.held m.whole (omega arith)) c.begun.ensures
 
 pub take_spec : {M : Type 1} → statement M
 take_spec =

@@ -4,17 +4,17 @@ use borrow.Author.Rules.{rules}
 use Rattle.records.proofs.perform.answered.Statement.{statement}
 use Rattle.records.proofs.perform.answered.Tie as tie
 
-returns : tie.Need-returns
+returns : tie.Need-returns-in-ToOpen
 unfolding answered
-returns c = rw c.before.enum_told.given.1 c.opening.ensures
+returns c = rw c.before.in-ToOpen.is c.opening.ensures
 
-returns-2 : tie.Need-returns-2
+returns-2 : tie.Need-returns-in-ToPut
 unfolding answered
-returns-2 c = rw c.before.enum-told2.given.1 c.Going-on.ensures
+returns-2 c = rw c.before.in-ToPut.is c.going_on.ensures
 
-returns-3 : tie.Need-returns-3
+returns-3 : tie.Need-returns-in-ToUndo
 unfolding answered
-returns-3 c = rw c.before.enum-told3.given.1 c.going-on2.ensures
+returns-3 c = rw c.before.in-ToUndo.is c.going_on-in-ToUndo.ensures
 
 pub answered_spec : {M : Type 1} → statement M
 answered_spec =

@@ -6,13 +6,13 @@ use borrow.Author.Rules.{rules}
 use Rattle.records.proofs.perform.going_on.Statement.{statement}
 use Rattle.records.proofs.perform.going_on.Tie as tie
 
-returns : tie.Need-returns
+returns : tie.Need-returns-then-number-eq0
 unfolding going_on
-returns c = let number = c.before.outcome-number in rw (← number.ensures, eq-eqb number.result 0 (omega arith))
+returns c = let number = c.before.outcome_number-number in rw (← number.ensures, eq-eqb number.result 0 (omega arith))
 
-returns-2 : tie.Need-returns-2
+returns-2 : tie.Need-returns
 unfolding going_on
-returns-2 c = let number = c.before.outcome-number in rw (← number.ensures, ne_eqb number.result 0 (omega arith))
+returns-2 c = let number = c.before.outcome_number-number in rw (← number.ensures, ne_eqb number.result 0 (omega arith))
 
 pub going_on_spec : {M : Type 1} → statement M
 going_on_spec = tie.close (tie.spec (λ c κs. search rules) returns returns-2)

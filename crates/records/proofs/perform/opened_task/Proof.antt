@@ -4,25 +4,25 @@ use borrow.Author.Rules.{rules}
 use Rattle.records.proofs.perform.opened_task.Statement.{statement}
 use Rattle.records.proofs.perform.opened_task.Tie as tie
 
-returns : tie.Need-returns
+returns : tie.Need-returns-in-Open
 unfolding task_of
-returns c = rw c.enum_told.given.1
+returns c = rw c.in-Open.is
 
-returns-2 : tie.Need-returns-2
+returns-2 : tie.Need-returns-in-Put
 unfolding task_of
-returns-2 c = rw (c.before.before.item.given.1, c.put-request.ensures)
+returns-2 c = rw (c.before.in-Put.is, c.put_request.ensures)
 
-returns-3 : tie.Need-returns-3
+returns-3 : tie.Need-returns-in-NoShape
 unfolding task_of
-returns-3 c = rw (c.before.before.item2.given.1, c.shapeless-request.ensures)
+returns-3 c = rw (c.before.in-NoShape.is, c.shapeless_request.ensures)
 
-returns-4 : tie.Need-returns-4
+returns-4 : tie.Need-returns-in-Undo
 unfolding task_of
-returns-4 c = rw c.enum-told2.given.1
+returns-4 c = rw c.in-Undo.is
 
-returns-5 : tie.Need-returns-5
+returns-5 : tie.Need-returns-in-Show
 unfolding task_of
-returns-5 c = rw c.enum-told3.given.1
+returns-5 c = rw c.in-Show.is
 
 pub opened_task_spec : {M : Type 1} → statement M
 opened_task_spec =

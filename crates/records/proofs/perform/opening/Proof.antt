@@ -6,23 +6,23 @@ use borrow.Author.Rules.{rules}
 use Rattle.records.proofs.perform.opening.Statement.{statement}
 use Rattle.records.proofs.perform.opening.Tie as tie
 
-returns : tie.Need-returns
+returns : tie.Need-returns-then-number-eq0
 unfolding opening
-returns c = let number = c.before.outcome-number in rw (← number.ensures, eq-eqb number.result 0 (omega arith))
+returns c = let number = c.before.outcome_number-number in rw (← number.ensures, eq-eqb number.result 0 (omega arith))
 
-returns-2 : tie.Need-returns-2
+returns-2 : tie.Need-returns-then-number-eq1
 unfolding opening
 returns-2 c =
-    let number = c.before.before.before.outcome-number in
+    let number = c.before.before.before.outcome_number-number in
     rw (← number.ensures, ne_eqb number.result 0 (omega arith), eq-eqb number.result 1 (omega arith))
     c.stopping.ensures
 
-returns-3 : tie.Need-returns-3
+returns-3 : tie.Need-returns
 unfolding opening
 returns-3 c =
-    let number = c.before.before.before.outcome-number in
+    let number = c.before.before.before.outcome_number-number in
     rw (← number.ensures, ne_eqb number.result 0 (omega arith), ne_eqb number.result 1 (omega arith))
-    c.stopping2.ensures
+    c.stopping-2.ensures
 
 pub opening_spec : {M : Type 1} → statement M
 opening_spec =

@@ -11,41 +11,39 @@ use borrow.Author.Rules.{rules}
 use Rattle.records.proofs.perform.perform.Statement.{statement}
 use Rattle.records.proofs.perform.perform.Tie as tie
 
-returns : tie.Need-returns
+returns : tie.Need-returns-in-ToStand
 unfolding performed
-returns c = record { done = rw c.before.task.given.1; few-cells = tt }
+returns c = record { done = rw c.in-ToStand.is; few_cells = tt }
 
-returns-2 : tie.Need-returns-2
+returns-2 : tie.Need-returns-in-ToStop
 unfolding performed
 returns-2 c =
     record {
-      done = rw (c.before.before.task2.given.1, c.stopping.ensures);
-      few-cells = rw c.stopping.ensures tt;
+      done = rw (c.before.in-ToStop.is, c.stopping.ensures);
+      few_cells = rw c.stopping.ensures tt;
     }
 
-returns-3 : tie.Need-returns-3
+returns-3 : tie.Need-returns-in-ToCall
 unfolding performed
 returns-3 c =
     let call = c.before in
-    let given = call.before.before.before.before.before.task3.given in
     record {
-      done = rw (given.1, ← call.call-on-front.ensures, c.answered.ensures);
-      few-cells = rw c.answered.ensures (few_answered given.0.0 (returned call.call-on-front.result));
+      done = rw (c.in-ToCall.is, ← call.call_on_front-a.ensures, c.answered.ensures);
+      few_cells = rw c.answered.ensures (few_answered c.in-ToCall.request (returned call.call_on_front-a.result));
     }
 
-returns-4 : tie.Need-returns-4
+returns-4 : tie.Need-returns-in-ToShow
 unfolding performed
 returns-4 c =
     let show = c.before in
     let lent = show.before.before.before.before in
-    let told = lent.before.before.before.before in
-    let a = told.before.before.args in
-    let given = told.task4.given in
-    let long : length a.planes.now ≡ planes_room = omega (arith, lent.show-on-front-arg2.given.0) in
-    let few = few_pictures given.0.0 a.planes.now (views a.scratch.now a.values.now a.mattes.now) long in
+    let told = lent.before.before.before in
+    let a = told.before.args in
+    let long : length a.planes.now ≡ planes_room = omega (arith, lent.show_on_front-arg-in-ToShow-1.given) in
+    let few = few_pictures c.in-ToShow.state a.planes.now (views a.scratch.now a.values.now a.mattes.now) long in
     record {
-      done = rw (given.1, ← show.show-on-front.ensures, c.Going-on.ensures);
-      few-cells = rw c.Going-on.ensures (rw (← show.show-on-front.ensures) at few);
+      done = rw (c.in-ToShow.is, ← show.show_on_front-a.ensures, c.going_on.ensures);
+      few_cells = rw c.going_on.ensures (rw (← show.show_on_front-a.ensures) at few);
     }
 
 pub perform_spec : {M : Type 1} → statement M

@@ -4,15 +4,15 @@ use borrow.Author.Rules.{rules}
 use Rattle.records.proofs.perform.task.Statement.{statement}
 use Rattle.records.proofs.perform.task.Tie as tie
 
-returns : tie.Need-returns
-returns c = rw c.before.enum_told.given.1 c.closed-task.ensures
+returns : tie.Need-returns-in-Closed
+returns c = rw c.before.in-Closed.is c.closed_task.ensures
 
-returns-2 : tie.Need-returns-2
-returns-2 c = rw c.before.before.stage.given.1 c.opened-task.ensures
+returns-2 : tie.Need-returns-in-Opened
+returns-2 c = rw c.before.in-Opened.is c.opened_task.ensures
 
-returns-3 : tie.Need-returns-3
+returns-3 : tie.Need-returns-in-Ended
 unfolding task_of
-returns-3 c = rw c.enum-told2.given.1
+returns-3 c = rw c.in-Ended.is
 
 pub task_spec : {M : Type 1} → statement M
 task_spec =

@@ -6,13 +6,13 @@ use borrow.Author.Rules.{rules}
 use Rattle.records.proofs.record.body_length.Statement.{statement}
 use Rattle.records.proofs.record.body_length.Tie as tie
 
-returns : tie.Need-returns
+returns : tie.Need-returns-in-1
 returns c = let told : c.before.args.kind ≡ 1 = omega arith in rw told
 
-returns-2 : tie.Need-returns-2
+returns-2 : tie.Need-returns-in-2
 returns-2 c = let told : c.before.args.kind ≡ 2 = omega arith in rw told
 
-returns-5 : tie.Need-returns-5
+returns-5 : tie.Need-returns-in_default
 returns-5 c = sym (unknown_kind c.before.args.kind (omega arith) (omega arith) (omega arith) (omega arith))
 
 pub body_length_spec : {M : Type 1} → statement M

@@ -4,24 +4,24 @@ use Rattle.kernels_model.proofs.Taps.ShapeNumbers.{shape_read_lem}
 use Rattle.records.proofs.record.put_record.Statement.{statement}
 use Rattle.records.proofs.record.put_record.Tie as tie
 
-returns : tie.Need-returns
+returns : tie.Need-returns-in_default
 returns c =
     rw (
-      c.before.before.before.before.before.size.ensures,
-      c.before.before.before.before.size2.ensures,
-      c.before.before.before.two.ensures,
-      ← shape_read_lem _ _ c.before.before.shape_of.ensures,
-      c.enum_told.given.1,
+      c.before.before.before.before.size-x.ensures,
+      c.before.before.before.size-y.ensures,
+      c.before.before.two-value.ensures,
+      ← shape_read_lem _ _ c.before.shape_of.ensures,
+      c.in_default.is,
     )
 
-returns-2 : tie.Need-returns-2
+returns-2 : tie.Need-returns
 returns-2 c =
     rw (
-      c.before.before.before.before.before.before.size.ensures,
-      c.before.before.before.before.before.size2.ensures,
-      c.before.before.before.before.two.ensures,
-      ← shape_read_lem _ _ c.before.before.before.shape_of.ensures,
-      c.before.shape.given.1,
+      c.before.before.before.before.size-x.ensures,
+      c.before.before.before.size-y.ensures,
+      c.before.before.two-value.ensures,
+      ← shape_read_lem _ _ c.before.shape_of.ensures,
+      c.in-Known.is,
     )
 
 pub put_record_spec : {M : Type 1} → statement M

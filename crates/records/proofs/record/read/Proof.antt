@@ -6,25 +6,25 @@ use borrow.Author.Rules.{rules}
 use Rattle.records.proofs.record.read.Statement.{statement}
 use Rattle.records.proofs.record.read.Tie as tie
 
-returns : tie.Need-returns
+returns : tie.Need-returns-then-kind-eq1
 unfolding record_of
 returns c =
     let kind = c.before.before.before.args.kind in
-    rw (eq-eqb kind 1 (omega arith), c.before.size.ensures, c.size2.ensures)
+    rw (eq-eqb kind 1 (omega arith), c.before.size.ensures, c.size-then-kind-eq1.ensures)
 
-returns-2 : tie.Need-returns-2
+returns-2 : tie.Need-returns-then-kind-eq2
 unfolding record_of
 returns-2 c =
     let kind = c.before.before.before.args.kind in
     rw (ne_eqb kind 1 (omega arith), eq-eqb kind 2 (omega arith), c.put_record.ensures)
 
-returns-3 : tie.Need-returns-3
+returns-3 : tie.Need-returns-then-kind-eq3
 unfolding record_of
 returns-3 c =
     let kind = c.before.before.before.args.kind in
     rw (ne_eqb kind 1 (omega arith), ne_eqb kind 2 (omega arith), eq-eqb kind 3 (omega arith))
 
-returns-4 : tie.Need-returns-4
+returns-4 : tie.Need-returns
 unfolding record_of
 returns-4 c =
     let kind = c.before.before.before.args.kind in

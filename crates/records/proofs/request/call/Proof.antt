@@ -4,29 +4,17 @@ use borrow.Author.Rules.{rules}
 use Rattle.records.proofs.request.call.Statement.{statement}
 use Rattle.records.proofs.request.call.Tie as tie
 
--- the call of each arm
-abbrev opens : tie.After-slice-known6 → tie.After-open
-opens c = c.before.before.before.before.before.before
-
-abbrev puts : tie.After-slice-known9 → tie.After-put-asked
-puts c = c.before.before.before.before.before.before
-
-abbrev undoes : tie.After-slice-known12 → tie.After-undo
-undoes c = c.before.before.before.before.before.before
-
-returns : tie.Need-returns
+returns : tie.Need-returns-in-ToOpen
 unfolding request_call
-returns c = let h = opens c in rw h.before.before.before.before.before.request.given.1 h.«open».ensures
+returns c = rw c.in-ToOpen.is c.«open».ensures
 
-returns-2 : tie.Need-returns-2
+returns-2 : tie.Need-returns-in-ToPut
 unfolding request_call
-returns-2 c =
-    let h = puts c in
-    rw h.before.before.before.before.before.before.before.request2.given.1 h.put-asked.ensures
+returns-2 c = rw c.in-ToPut.is c.put_asked.ensures
 
-returns-3 : tie.Need-returns-3
+returns-3 : tie.Need-returns-in-ToUndo
 unfolding request_call
-returns-3 c = let h = undoes c in rw h.before.before.before.before.before.request3.given.1 h.undo.ensures
+returns-3 c = rw c.in-ToUndo.is c.undo.ensures
 
 pub call_spec : {M : Type 1} → statement M
 call_spec =

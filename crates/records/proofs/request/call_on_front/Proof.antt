@@ -14,35 +14,35 @@ use Rattle.records.proofs.request.call_on_front.Statement.{statement}
 use Rattle.records.proofs.request.call_on_front.Tie as tie
 
 -- where the call starts, and the sizes of the plate that is asked
-abbrev start : tie.After-struct-known → tie.Start
+abbrev start : tie.After-struct_known-1 → tie.Start
 start c = c.before.before.before.before.before.before
 
-abbrev asked : tie.After-struct-known → Size
+abbrev asked : tie.After-struct_known-1 → Size
 asked c = request_size (start c).args.request
 
 -- what there is room for
-cells_are : (c : tie.After-struct-known) → c.before.room.result.cells ≡ lent_cells (asked c)
-cells_are c = c.before.room.ensures.0 ∙ ap lent_cells c.before.before.type_size.ensures
+cells_are : (c : tie.After-struct_known-1) → c.before.room-lent.result.cells ≡ lent_cells (asked c)
+cells_are c = c.before.room-lent.ensures.0 ∙ ap lent_cells c.before.before.size_of.ensures
 
-places-are : (c : tie.After-struct-known) → c.before.room.result.places ≡ lent_places (asked c)
-places-are c = c.before.room.ensures.1 ∙ ap lent_places c.before.before.type_size.ensures
+places-are : (c : tie.After-struct_known-1) → c.before.room-lent.result.places ≡ lent_places (asked c)
+places-are c = c.before.room-lent.ensures.1 ∙ ap lent_places c.before.before.size_of.ensures
 
-mul-cells : tie.Need-overflow-mul-cells
+mul-cells : tie.Need-overflow_mul-cells
 mul-cells c = omega (arith, cells_within (asked c), cells_are c)
 
-slice-relend-prefix-call : tie.Need-slice-relend-prefix-call
+slice-relend-prefix-call : tie.Need-slice_bounds-call-end
 slice-relend-prefix-call c = omega (arith, cells_within (asked c), cells_are c, (start c).requires.planes_are)
 
-slice-aggregate-call : tie.Need-slice-aggregate-call
+slice-aggregate-call : tie.Need-slice_bounds-call-end-2
 slice-aggregate-call c =
     let h = c.before in
     sym (length-take-le _ _ (omega (arith, cells_within (asked h), cells_are h, (start h).requires.planes_are)))
 
-slice-relend-prefix-call-2 : tie.Need-slice-relend-prefix-call-2
+slice-relend-prefix-call-2 : tie.Need-slice_bounds-call-end-3
 slice-relend-prefix-call-2 c =
     let h = c.before in omega (arith, places-within (asked h), places-are h, (start h).requires.pixels_are)
 
-slice-aggregate-call-2 : tie.Need-slice-aggregate-call-2
+slice-aggregate-call-2 : tie.Need-slice_bounds-call-end-4
 slice-aggregate-call-2 c =
     let h = c.before.before in
     sym (length-take-le _ _ (omega (arith, places-within (asked h), places-are h, (start h).requires.pixels_are)))
@@ -52,7 +52,7 @@ returns c =
     let h = c.before.before.before.before.before.before.before.before.before.before in
     let a = (start h).args in
     let call = c.before.before.before.before.before.before.call in
-    let lent-counts = h.before.room.result in
+    let lent-counts = h.before.room-lent.result in
     request_is a.request (lent a.planes.now a.pixels.now a.log.now)
     (planes_in_all * lent-counts.cells) lent-counts.places
     call.result (ap (λ (n : ℕ). planes_in_all * n) (cells_are h)) (places-are h) call.ensures

@@ -11,31 +11,31 @@ use Rattle.records.proofs.request.room.Statement.{statement}
 use Rattle.records.proofs.request.room.Tie as tie
 
 -- where the call starts, seen from where each side is small enough
-abbrev start : tie.After-struct-known4 → tie.Start
+abbrev start : tie.After-struct_known-4-1 → tie.Start
 start c = c.before.before.before.before.before.before.before
 
-returns : tie.Need-returns
+returns : tie.Need-returns-then-size-gt-CELLS
 returns c =
     let a = c.before.before.args in
     let z = a.size in
     let many : cells_top < padded z = long z (omega arith) in
     (sym (no_room z (padded z) many), sym (no_room z (places z) many))
 
-returns-2 : tie.Need-returns-2
+returns-2 : tie.Need-returns-then-size-gt-CELLS-2
 returns-2 c =
     let a = c.before.before.before.before.args in
     let z = a.size in
     let many : cells_top < padded z = tall z (omega arith) in
     (sym (no_room z (padded z) many), sym (no_room z (places z) many))
 
-returns-3 : tie.Need-returns-3
+returns-3 : tie.Need-returns-then-size-gt-CELLS-3
 returns-3 c =
     let a = c.before.before.before.before.before.before.args in
     let z = a.size in
     let many : cells_top < padded z = long z (omega arith) in
     (sym (no_room z (padded z) many), sym (no_room z (places z) many))
 
-mul-cells-3 : tie.Need-overflow-mul-cells-3
+mul-cells-3 : tie.Need-overflow_mul-cells-3
 mul-cells-3 c =
     let a = (start c.before.before.before).args in
     omega (
@@ -43,14 +43,14 @@ mul-cells-3 c =
       product_le (wide a.size) (high a.size) 2048 2048 (omega arith) (omega arith),
     )
 
-returns-4 : tie.Need-returns-4
+returns-4 : tie.Need-returns-then-cells-gt-CELLS
 returns-4 c =
     let a = (start c.before.before.before.before).args in
     let z = a.size in
     let many : cells_top < padded z = omega arith in
     (sym (no_room z (padded z) many), sym (no_room z (places z) many))
 
-returns-5 : tie.Need-returns-5
+returns-5 : tie.Need-returns
 returns-5 c =
     let a = (start c.before.before.before.before.before).args in
     let z = a.size in

@@ -11,67 +11,67 @@ use Rattle.records.proofs.text.cell.Statement.{statement}
 use Rattle.records.proofs.text.cell.Tie as tie
 
 -- where the value and the matte are read, and each step after that, seen from the next one
-abbrev start : tie.After-wide16 → tie.Start
+abbrev start : tie.After-wide16-value → tie.Start
 start c = c.before.before.before.before.before
 
-abbrev value : tie.After-wide8 → tie.After-wide16
+abbrev value : tie.After-wide8-matte → tie.After-wide16-value
 value c = c.before.before
 
-abbrev matte : tie.After-number → tie.After-wide8
+abbrev matte : tie.After-number-one → tie.After-wide8-matte
 matte c = c.before.before
 
-abbrev first : tie.After-byte → tie.After-number
+abbrev first : tie.After-byte-two → tie.After-number-one
 first c = c.before.before.before.before
 
-abbrev second : tie.After-number2 → tie.After-byte
+abbrev second : tie.After-number → tie.After-byte-two
 second c = c.before.before.before.before
 
 -- the digits of both
-value-short : (c : tie.After-wide8) → length (decimal (value c).wide16.result) ≤ 5
-value-short c = let v = (value c).wide16 in decimal_short 4 v.result (omega (arith, v.ensures.1))
+value-short : (c : tie.After-wide8-matte) → length (decimal (value c).wide16-value.result) ≤ 5
+value-short c = let v = (value c).wide16-value in decimal_short 4 v.result (omega (arith, v.ensures.1))
 
-matte-short : (c : tie.After-wide8) → length (decimal c.wide8.result) ≤ 3
-matte-short c = let m = c.wide8 in decimal_short 2 m.result (omega (arith, m.ensures.1))
+matte-short : (c : tie.After-wide8-matte) → length (decimal c.wide8-matte.result) ≤ 3
+matte-short c = let m = c.wide8-matte in decimal_short 2 m.result (omega (arith, m.ensures.1))
 
-number-requires : tie.Need-number-requires
+number-requires : tie.Need-number-one-requires
 number-requires c κs =
     let m = c.before in
     omega (arith, (start (value m)).requires.out_room, value-short m, matte-short m)
 
-byte-requires : tie.Need-byte-requires
+byte-requires : tie.Need-byte-two-requires
 byte-requires c κs =
     let one = c.before.before.before in
     let m = matte one in
     omega (
       arith,
-      one.number.auto.0,
-      one.number.ensures.next_is,
+      one.number-one.auto.out,
+      one.number-one.ensures.next_is,
       (start (value m)).requires.out_room,
       value-short m,
       matte-short m,
     )
 
-number-requires-2 : tie.Need-number-requires-2
+number-requires-2 : tie.Need-number-requires
 number-requires-2 c κs =
     let two = c.before.before.before in
     let one = first two in
     let m = matte one in
     omega (
       arith,
-      one.number.kept.0,
-      two.byte.auto.0,
-      one.number.ensures.next_is,
-      two.byte.ensures.next_is,
+      one.number-one.auto.out,
+      two.byte-two.auto.out,
+      one.number-one.ensures.next_is,
+      two.byte-two.ensures.next_is,
       (start (value m)).requires.out_room,
       value-short m,
       matte-short m,
     )
 
-same_length : tie.Need-same-length
+same_length : tie.Need-shape_of-out
 same_length c =
     let three = c.before.before in
     let two = second three in
-    three.number2.auto.0 ∙ two.byte.kept.0 ∙ (first two).number.kept.0
+    three.number.auto.out ∙ two.byte-two.auto.out ∙ (first two).number-one.auto.out
 
 returns : tie.Need-returns
 unfolding cell_text
@@ -82,13 +82,13 @@ returns c =
     let m = matte one in
     record {
       wrote =
-          rw (← (value m).wide16.ensures.0, ← m.wide8.ensures.0)
-          (then_wrote one.number.ensures (then_wrote two.byte.ensures three.number2.ensures));
+          rw (← (value m).wide16-value.ensures.0, ← m.wide8-matte.ensures.0)
+          (then_wrote one.number-one.ensures (then_wrote two.byte-two.ensures three.number.ensures));
       short = omega (
         arith,
-        one.number.ensures.next_is,
-        two.byte.ensures.next_is,
-        three.number2.ensures.next_is,
+        one.number-one.ensures.next_is,
+        two.byte-two.ensures.next_is,
+        three.number.ensures.next_is,
         value-short m,
         matte-short m,
       );

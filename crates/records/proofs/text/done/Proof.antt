@@ -9,9 +9,9 @@ returns : tie.Need-returns
 unfolding done_line
 returns c =
     let last = c.before.before in
-    then_wrote last.before.before.before.before.labelled.ensures.wrote last.byte.ensures
+    then_wrote last.before.before.before.before.labelled-next.ensures.wrote last.byte.ensures
 
 pub done_spec : {M : Type 1} → statement M
 done_spec =
     tie.close
-    (tie.spec (λ c. search rules) (λ c κs. search rules) (λ c κs. search rules) (λ c. search rules) returns)
+    (tie.spec (λ c κs. search rules) (λ c κs. search rules) (λ c. search rules) returns)

@@ -6,7 +6,7 @@ use Rattle.records.proofs.Laws.Writing.Rows.{gap_first, gap_next}
 use Rattle.records.proofs.text.gap.Statement.{statement}
 use Rattle.records.proofs.text.gap.Tie as tie
 
-returns : tie.Need-returns
+returns : tie.Need-returns-then-j-eq0
 returns c =
     let start = c.before.before in
     record {
@@ -15,7 +15,7 @@ returns c =
       short = omega arith;
     }
 
-returns-2 : tie.Need-returns-2
+returns-2 : tie.Need-returns
 returns-2 c =
     let start = c.before.before.before.before.before.before in
     let wrote = c.before.before.byte.ensures in

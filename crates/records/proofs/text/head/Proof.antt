@@ -11,17 +11,16 @@ unfolding head_line
 returns c =
     let last = c.before.before in
     let second = last.before.before.before.before in
-    let first = second.before.before.before.before.labelled.ensures in
+    let first = second.before.before.before.before.labelled-one.ensures in
     record {
-      wrote = then_wrote (then_wrote first.wrote second.spaced.ensures.wrote) last.byte.ensures;
-      short = omega (arith, first.short, second.spaced.ensures.short, last.byte.ensures.next_is);
+      wrote = then_wrote (then_wrote first.wrote second.spaced-two.ensures.wrote) last.byte.ensures;
+      short = omega (arith, first.short, second.spaced-two.ensures.short, last.byte.ensures.next_is);
     }
 
 pub head_spec : {M : Type 1} → statement M
 head_spec =
     tie.close
     (tie.spec
-    (λ c. search rules)
     (λ c κs. search rules)
     (λ c κs. search rules)
     (λ c κs. search rules)

@@ -8,7 +8,7 @@ use Rattle.records.proofs.text.labelled.Tie as tie
 returns : tie.Need-returns
 returns c =
     let number = c.before.before.spaced.ensures in
-    let label = c.before.before.before.before.before.before.word.ensures in
+    let label = c.before.before.before.before.before.before.word-next.ensures in
     record {
       wrote = then_wrote label number.wrote;
       short = omega (arith, label.next_is, number.short);

@@ -14,14 +14,13 @@ returns c =
     let first = second.before.before.before.before.before in
     let a = first.before.before.before.before.args in
     rw (append_assoc (a.w.now ++ (space ∷ decimal a.n)) (space ∷ at_word) (space ∷ decimal a.k))
-    (then_wrote (then_wrote first.labelled.ensures.wrote second.labelled2.ensures.wrote) last.byte.ensures)
+    (then_wrote (then_wrote first.labelled-one.ensures.wrote second.labelled-two.ensures.wrote) last.byte.ensures)
 
 pub line_spec : {M : Type 1} → statement M
 line_spec =
     tie.close
     (tie.spec
     (λ c κs. search rules)
-    (λ c. search rules)
     (λ c κs. search rules)
     (λ c κs. search rules)
     (λ c. search rules)

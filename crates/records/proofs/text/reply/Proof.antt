@@ -15,35 +15,35 @@ use Rattle.records.proofs.text.reply.Tie as tie
 
 show-requires : tie.Need-show-requires
 show-requires c κs =
-    let told = c.before.before.before.before.r3.given in
-    let s = c.before.before.before.before.before.before.before in
-    let z : Size = told.0.0 in
-    let small : padded z ≤ cells_top = rw told.1 at s.requires.few_cells in
+    let told = c.before.before.before.in-Pictures in
+    let s = c.before.before.before.before.before in
+    let z : Size = told.size in
+    let small : padded z ≤ cells_top = rw told.is at s.requires.few_cells in
     let few = places_few z in
     let turned = mul_comm z.height z.width in
     record {
-      out-room = omega (arith, text_fits z small, s.requires.out_room);
-      values-room = omega (arith, s.well-formed);
-      mattes-room = omega (arith, s.well-formed);
+      out_room = omega (arith, text_fits z small, s.requires.out_room);
+      values_room = omega (arith, s.well_formed);
+      mattes_room = omega (arith, s.well_formed);
     }
 
-returns : tie.Need-returns
+returns : tie.Need-returns-in-Nothing
 unfolding reply_text
 returns c =
-    let s = c.before.before.before in
-    rw c.enum_told.given.1 (wrote_nothing s.args.out.now s.args.at (omega (arith, s.requires.out_room)))
+    let s = c.before.before in
+    rw c.in-Nothing.is (wrote_nothing s.args.out.now s.args.at (omega (arith, s.requires.out_room)))
 
-returns-2 : tie.Need-returns-2
+returns-2 : tie.Need-returns-in-StoppedBy
 unfolding reply_text
-returns-2 c = rw c.before.before.before.before.before.r.given.1 c.before.before.stopped.ensures
+returns-2 c = rw c.before.before.before.before.in-StoppedBy.is c.before.before.stopped.ensures
 
-returns-3 : tie.Need-returns-3
+returns-3 : tie.Need-returns-in-RefusedBy
 unfolding reply_text
-returns-3 c = rw c.before.before.before.before.before.before.r2.given.1 c.before.before.line.ensures
+returns-3 c = rw c.before.before.before.before.before.before.in-RefusedBy.is c.before.before.line.ensures
 
-returns-4 : tie.Need-returns-4
+returns-4 : tie.Need-returns-in-Pictures
 unfolding reply_text
-returns-4 c = rw c.before.before.before.before.before.before.before.r3.given.1 c.before.before.show.ensures
+returns-4 c = rw c.before.before.before.before.before.before.in-Pictures.is c.before.before.show.ensures
 
 pub reply_spec : {M : Type 1} → statement M
 reply_spec =
@@ -52,7 +52,6 @@ reply_spec =
     (λ c. search rules)
     (λ c. search rules)
     (λ c κs. search rules)
-    (λ c. search rules)
     (λ c. search rules)
     (λ c κs. search rules)
     (λ c. search rules)

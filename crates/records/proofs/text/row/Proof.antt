@@ -12,54 +12,54 @@ use Rattle.records.proofs.Laws.Writing.Rows.{row_more}
 use Rattle.records.proofs.text.row.Statement.{statement}
 use Rattle.records.proofs.text.row.Tie as tie
 
-abbrev invariant-loop : tie.invariant-loop
+abbrev invariant-loop : tie.invariant-loop-j
 invariant-loop out₀ at values mattes from w next₀ j₀ out next j =
     (j ≤ w) × (length out ≡ length out₀) × (next ≤ at + row_room j) × Wrote out₀ at (row_text values mattes from j) out next
 
-abbrev decreases-loop : tie.decreases-loop
+abbrev decreases-loop : tie.decreases-loop-j
 decreases-loop out₀ at values mattes from w next₀ j₀ out next j = w - j
 
-loop-holds : tie.Need-loop-init invariant-loop decreases-loop
+loop-holds : tie.Need-loop-j-init invariant-loop decreases-loop
 unfolding row_text
 loop-holds c = (search rules, search rules, search rules, wrote_nothing _ _ (omega arith))
 
-gap-requires : tie.Need-gap-requires invariant-loop decreases-loop
+gap-requires : tie.Need-gap-start-requires invariant-loop decreases-loop
 gap-requires c κs = omega arith
 
-add-cell : tie.Need-overflow-add-cell invariant-loop decreases-loop
+add-cell : tie.Need-overflow_add-from invariant-loop decreases-loop
 add-cell c = omega arith
 
-cell-requires : tie.Need-cell-requires invariant-loop decreases-loop
+cell-requires : tie.Need-cell-next-requires invariant-loop decreases-loop
 cell-requires c κs =
     let at = c.before.before.before.before.before.before in
     let start = at.before.before.before.before in
-    let one = c.before.before.before.gap in
-    let room = one.auto.0 in
+    let one = c.before.before.before.gap-start in
+    let room = one.auto.out in
     record {
-      out-room = omega (arith, one.ensures.short, start.requires.out_room);
-      values-room = omega (arith, start.requires.values_room);
-      mattes-room = omega (arith, start.requires.mattes_room);
+      out_room = omega (arith, one.ensures.short, start.requires.out_room);
+      values_room = omega (arith, start.requires.values_room);
+      mattes_room = omega (arith, start.requires.mattes_room);
     }
 
-loop-again : tie.Need-loop-preserved invariant-loop decreases-loop
+loop-again : tie.Need-loop-j-preserved invariant-loop decreases-loop
 loop-again c =
     let at = c.before.before.before.before.before.before.before.before.before in
     let start = at.before.before.before.before in
-    let one = c.before.before.before.before.before.before.gap in
-    let two = c.before.before.cell in (
+    let one = c.before.before.before.before.before.before.gap-start in
+    let two = c.before.before.cell-next in (
       search rules,
-      two.auto.0 ∙ one.auto.0 ∙ at.loop.invariant.1,
-      omega (arith, one.ensures.short, two.ensures.short, at.loop.invariant.2),
-      rw (row_more start.args.values.now start.args.mattes.now start.args.from at.loop.j)
-          (then_wrote at.loop.invariant.3 (then_wrote one.ensures.wrote two.ensures.wrote)),
+      two.auto.out ∙ one.auto.out ∙ at.loop-j.invariant.1,
+      omega (arith, one.ensures.short, two.ensures.short, at.loop-j.invariant.2),
+      rw (row_more start.args.values.now start.args.mattes.now start.args.from at.loop-j.j)
+          (then_wrote at.loop-j.invariant.3 (then_wrote one.ensures.wrote two.ensures.wrote)),
     )
 
 returns : tie.Need-returns invariant-loop decreases-loop
 returns c =
     let at = c.before in
     let start = at.before.before.before.before in
-    let all : at.loop.j ≡ start.args.w = omega arith in
-    record { wrote = rw all at at.loop.invariant.3; short = rw all at at.loop.invariant.2 }
+    let all : at.loop-j.j ≡ start.args.w = omega arith in
+    record { wrote = rw all at at.loop-j.invariant.3; short = rw all at at.loop-j.invariant.2 }
 
 pub row_spec : {M : Type 1} → statement M
 row_spec =

@@ -13,7 +13,7 @@ use Rattle.records.proofs.Laws.Writing.Rows.{rows_more}
 use Rattle.records.proofs.text.rows.Statement.{statement}
 use Rattle.records.proofs.text.rows.Tie as tie
 
-abbrev invariant-loop : tie.invariant-loop
+abbrev invariant-loop : tie.invariant-loop-y
 invariant-loop out₀ at values mattes w h next₀ from₀ y₀ out next from y =
     (y ≤ h)
     × (from ≡ y * w)
@@ -21,65 +21,65 @@ invariant-loop out₀ at values mattes w h next₀ from₀ y₀ out next from y 
     × (next ≤ at + rows_room w y)
     × Wrote out₀ at (rows_text values mattes w y) out next
 
-abbrev decreases-loop : tie.decreases-loop
+abbrev decreases-loop : tie.decreases-loop-y
 decreases-loop out₀ at values mattes w h next₀ from₀ y₀ out next from y = h - y
 
-loop-holds : tie.Need-loop-init invariant-loop decreases-loop
+loop-holds : tie.Need-loop-y-init invariant-loop decreases-loop
 unfolding rows_text
 loop-holds c = (omega arith, omega arith, search rules, omega arith, wrote_nothing _ _ (omega arith))
 
-row-requires : tie.Need-row-requires invariant-loop decreases-loop
+row-requires : tie.Need-row-end-requires invariant-loop decreases-loop
 row-requires c κs =
     let at = c.before.before in
     let start = at.before.before.before.before in
-    let before = product_le (at.loop.y + 1) start.args.w start.args.h start.args.w (omega arith) (omega arith) in
+    let before = product_le (at.loop-y.y + 1) start.args.w start.args.h start.args.w (omega arith) (omega arith) in
     let long = row_room start.args.w + 1 in
-    let room = product_le long (at.loop.y + 1) long start.args.h (omega arith) (omega arith) in
+    let room = product_le long (at.loop-y.y + 1) long start.args.h (omega arith) (omega arith) in
     record {
-      out-room = omega (arith, start.requires.out_room);
-      values-room = omega (arith, start.requires.values_room);
-      mattes-room = omega (arith, start.requires.mattes_room);
+      out_room = omega (arith, start.requires.out_room);
+      values_room = omega (arith, start.requires.values_room);
+      mattes_room = omega (arith, start.requires.mattes_room);
     }
 
-byte-requires : tie.Need-byte-requires invariant-loop decreases-loop
+byte-requires : tie.Need-byte-next-requires invariant-loop decreases-loop
 byte-requires c κs =
     let at = c.before.before.before.before.before.before in
     let start = at.before.before.before.before in
-    let one = c.before.before.before.row in
+    let one = c.before.before.before.row-end in
     let long = row_room start.args.w + 1 in
-    let room = product_le long (at.loop.y + 1) long start.args.h (omega arith) (omega arith) in
-    omega (arith, one.auto.0, one.ensures.short, at.loop.invariant.3, start.requires.out_room)
+    let room = product_le long (at.loop-y.y + 1) long start.args.h (omega arith) (omega arith) in
+    omega (arith, one.auto.out, one.ensures.short, at.loop-y.invariant.3, start.requires.out_room)
 
-add-from : tie.Need-overflow-add-from invariant-loop decreases-loop
+add-from : tie.Need-overflow_add-from invariant-loop decreases-loop
 add-from c =
     let at = c.before.before.before.before.before.before.before.before.before in
     let start = at.before.before.before.before in
-    let before = product_le (at.loop.y + 1) start.args.w start.args.h start.args.w (omega arith) (omega arith) in
-    omega (arith, start.requires.values_room, at.loop.invariant.1)
+    let before = product_le (at.loop-y.y + 1) start.args.w start.args.h start.args.w (omega arith) (omega arith) in
+    omega (arith, start.requires.values_room, at.loop-y.invariant.1)
 
-loop-again : tie.Need-loop-preserved invariant-loop decreases-loop
+loop-again : tie.Need-loop-y-preserved invariant-loop decreases-loop
 loop-again c =
     let at = c.before.before.before.before.before.before.before.before.before in
     let start = at.before.before.before.before in
-    let one = c.before.before.before.before.before.before.row in
-    let two = c.before.before.byte in (
+    let one = c.before.before.before.before.before.before.row-end in
+    let two = c.before.before.byte-next in (
       search rules,
-      omega (arith, at.loop.invariant.1),
-      two.auto.0 ∙ one.auto.0 ∙ at.loop.invariant.2,
-      omega (arith, one.ensures.short, two.ensures.next_is, at.loop.invariant.3),
+      omega (arith, at.loop-y.invariant.1),
+      two.auto.out ∙ one.auto.out ∙ at.loop-y.invariant.2,
+      omega (arith, one.ensures.short, two.ensures.next_is, at.loop-y.invariant.3),
       rw (
-        rows_more start.args.values.now start.args.mattes.now start.args.w at.loop.y,
-        ← at.loop.invariant.1,
+        rows_more start.args.values.now start.args.mattes.now start.args.w at.loop-y.y,
+        ← at.loop-y.invariant.1,
       )
-          (then_wrote (then_wrote at.loop.invariant.4 one.ensures.wrote) two.ensures),
+          (then_wrote (then_wrote at.loop-y.invariant.4 one.ensures.wrote) two.ensures),
     )
 
 returns : tie.Need-returns invariant-loop decreases-loop
 returns c =
     let at = c.before in
     let start = at.before.before.before.before in
-    let all : at.loop.y ≡ start.args.h = omega arith in
-    rw all at at.loop.invariant.4
+    let all : at.loop-y.y ≡ start.args.h = omega arith in
+    rw all at at.loop-y.invariant.4
 
 pub rows_spec : {M : Type 1} → statement M
 rows_spec =

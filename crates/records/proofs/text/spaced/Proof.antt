@@ -10,7 +10,7 @@ number-requires : tie.Need-number-requires
 number-requires c κs =
     let first = c.before.before.before in
     let s = first.before.before.before in
-    omega (arith, s.requires, first.byte.auto.0, first.byte.ensures.next_is, decimal_long s.args.n (omega arith))
+    omega (arith, s.requires, first.byte-next.auto.out, first.byte-next.ensures.next_is, decimal_long s.args.n (omega arith))
 
 returns : tie.Need-returns
 returns c =
@@ -18,8 +18,8 @@ returns c =
     let first = c.before.before.before.before.before.before in
     let s = first.before.before.before in
     record {
-      wrote = then_wrote first.byte.ensures number;
-      short = omega (arith, first.byte.ensures.next_is, number.next_is, decimal_long s.args.n (omega arith));
+      wrote = then_wrote first.byte-next.ensures number;
+      short = omega (arith, first.byte-next.ensures.next_is, number.next_is, decimal_long s.args.n (omega arith));
     }
 
 pub spaced_spec : {M : Type 1} → statement M

@@ -10,38 +10,38 @@ use Rattle.records.proofs.Laws.Writing.Slices.{wrote_nothing, word_more}
 use Rattle.records.proofs.text.word.Statement.{statement}
 use Rattle.records.proofs.text.word.Tie as tie
 
-abbrev invariant-loop : tie.invariant-loop
+abbrev invariant-loop : tie.invariant-loop-i
 invariant-loop out₀ at w next₀ i₀ i-end out next i =
     (i ≤ length w) × (length out ≡ length out₀) × Wrote out₀ at (take i w) out next
 
-abbrev decreases-loop : tie.decreases-loop
+abbrev decreases-loop : tie.decreases-loop-i
 decreases-loop out₀ at w next₀ i₀ i-end out next i = i-end - i
 
-loop-holds : tie.Need-loop-init invariant-loop decreases-loop
+loop-holds : tie.Need-loop-i-init invariant-loop decreases-loop
 loop-holds c = (search rules, search rules, wrote_nothing _ _ (omega arith))
 
-byte-requires : tie.Need-byte-requires invariant-loop decreases-loop
+byte-requires : tie.Need-byte-next-requires invariant-loop decreases-loop
 byte-requires c κs =
     let at = c.before.before.before in
     let start = at.before.before.before in
-    let long = length-take-le at.loop.i start.args.w.now at.loop.invariant.0 in
-    omega (arith, start.requires, long, at.loop.invariant.2.next_is)
+    let long = length-take-le at.loop-i.i start.args.w.now at.loop-i.invariant.0 in
+    omega (arith, start.requires, long, at.loop-i.invariant.2.next_is)
 
-loop-again : tie.Need-loop-preserved invariant-loop decreases-loop
+loop-again : tie.Need-loop-i-preserved invariant-loop decreases-loop
 loop-again c =
     let at = c.before.before.before.before.before.before in
     let start = at.before.before.before in (
       search rules,
-      c.before.before.byte.auto.0 ∙ at.loop.invariant.1,
-      word_more start.args.w.now at.loop.i at.loop.invariant.2 c.before.before.byte.ensures (omega arith),
+      c.before.before.byte-next.auto.out ∙ at.loop-i.invariant.1,
+      word_more start.args.w.now at.loop-i.i at.loop-i.invariant.2 c.before.before.byte-next.ensures (omega arith),
     )
 
 returns : tie.Need-returns invariant-loop decreases-loop
 returns c =
     let at = c.before in
     let start = at.before.before.before in
-    let whole : at.loop.i ≡ length start.args.w.now = omega arith in
-    rw (whole, take-length start.args.w.now) at at.loop.invariant.2
+    let whole : at.loop-i.i ≡ length start.args.w.now = omega arith in
+    rw (whole, take-length start.args.w.now) at at.loop-i.invariant.2
 
 pub word_spec : {M : Type 1} → statement M
 word_spec =
