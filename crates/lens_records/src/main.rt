@@ -1,5 +1,5 @@
-// The record program: records from standard input, their text to standard output. A program has no exit status to fail with, so
-// that a read or a write has failed is said on standard error, and the text then has no last line.
+// The record program: records from standard input, their text to standard output. That a read or a write has failed is said on
+// standard error, and the text then has no last line; the exit status is 0 all the same.
 #![tactic(auto)]
 
 ghost use Rattle.std.specs.Prelude.{◌≤◌, length, ◌≡◌, true};
