@@ -310,10 +310,8 @@ fn readme_shows_what_it_prints() {
         .map_while(|line| line.strip_prefix("    "))
         .map(|line| format!("{line}\n"))
         .collect();
-    let typed = typed.replace(
-        "crates/lens_records/out/lens_records",
-        program().to_str().expect("plain"),
-    );
+    let typed = typed
+        .replace("crates/lens_records/out/lens_records", program().to_str().expect("plain"));
     let output = Command::new("sh").args(["-c", &typed]).output().expect("sh starts");
     assert_eq!(String::from_utf8_lossy(&output.stdout), printed);
     assert!(printed.ends_with("done 6\n"));
