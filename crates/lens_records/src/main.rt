@@ -6,10 +6,13 @@ ghost use Rattle.std.specs.Prelude.{◌≤◌, length, ◌≡◌, true};
 ghost use Rattle.records_model.specs.Machine.{at_entry, at_exit, buffers, zeroed};
 ghost use Rattle.lens_records.specs.Feeding.{FedTo, FedFront};
 
-use libc::{STDERR_FILENO, STDIN_FILENO, STDOUT_FILENO};
 use records::advance::advance;
 use records::{Log, Machine, Mattes, Pixels, Planes, Scratch, Text, Values};
-use records_model::fixed::{CELLS, LOG, PLANE_CELLS, SCRATCH_CELLS};
+use records_model::fixed::{BUFFER, CELLS, LOG, PLANE_CELLS, SCRATCH_CELLS};
+use std::io::Read;
+
+// The bytes of a read, at most.
+const READ: usize = 65536;
 
 // A call of advance, its text written: the machine, how many bytes were taken, and whether the write went well.
 #[derive(Drop)]
@@ -28,27 +31,28 @@ struct Run {
 }
 
 // Says what has failed, where something has; hands on whether all went well.
-fn ok_or_report(ok: bool, failed: &[u8]) -> bool {
+fn ok_or_report(rt: &impl Eprint, ok: bool, failed: &str) -> bool {
     if !ok {
-        io::write_all(STDERR_FILENO, b"lens_records: ");
-        io::write_all(STDERR_FILENO, failed);
+        let _ = eprintln!(rt; "lens_records: {failed}");
     }
     ok
 }
 
 // The first bytes of the text are written.
-fn write(text: &[u8], n: usize) -> bool
+fn write(rt: &(impl Print + Eprint), text: &[u8], n: usize) -> bool
     requires { n ≤ length text.now }
 {
-    let ok = io::write_all(STDOUT_FILENO, &text[..n]);
+    let ok = rt.write_all(&text[..n]).is_ok();
     ok_or_report(
+        rt,
         ok,
-        b"cannot write standard output, so the text is cut short\n",
+        "cannot write standard output, so the text is cut short",
     )
 }
 
 // A call of advance, and its text written.
 fn advance_and_write(
+    rt: &(impl Print + Eprint),
     machine: Machine,
     part: &[u8],
     planes: &mut Planes,
@@ -70,12 +74,13 @@ fn advance_and_write(
     Written {
         machine: after,
         consumed: next.consumed,
-        ok: write(text, n),
+        ok: write(rt, text, n),
     }
 }
 
 // The bytes of one read, handed on from where the call before stopped until they are consumed: unless a write fails, all of them.
 fn part(
+    rt: &(impl Print + Eprint),
     machine: Machine,
     input: &[u8],
     planes: &mut Planes,
@@ -101,6 +106,7 @@ fn part(
         }
         let before = now.machine;
         now = advance_and_write(
+            rt,
             before,
             &input[at..],
             planes,
@@ -125,10 +131,14 @@ fn goes_on(machine: Machine, ok: bool) -> bool {
 }
 
 // The run after a read that brought nothing: the input has ended, or the read has failed.
-fn after_last_read(machine: Machine, ok: bool) -> Run {
+fn after_last_read(rt: &impl Eprint, machine: Machine, ok: bool) -> Run {
     Run {
         machine: machine,
-        ok: ok_or_report(ok, b"cannot read standard input, so the run is cut short\n"),
+        ok: ok_or_report(
+            rt,
+            ok,
+            "cannot read standard input, so the run is cut short",
+        ),
         more: false,
     }
 }
@@ -136,6 +146,8 @@ fn after_last_read(machine: Machine, ok: bool) -> Run {
 // One read, and the text of what it brought. The run goes on unless the input has ended, it has stopped, or a read or a write has
 // failed.
 fn read_once(
+    rt: &(impl Print + Eprint),
+    stdin: &mut impl Read,
     machine: Machine,
     planes: &mut Planes,
     pixels: &mut Pixels,
@@ -146,12 +158,15 @@ fn read_once(
     input: &mut [u8],
     text: &mut Text,
 ) -> Run {
-    let got = libc::read(STDIN_FILENO, input);
-    let n = io::count(got, input);
+    let n = match stdin.read(input) {
+        Ok(n) => n,
+        Err(_) => return after_last_read(rt, machine, false),
+    };
     if n == 0 {
-        return after_last_read(machine, got == 0);
+        return after_last_read(rt, machine, true);
     }
     let written = part(
+        rt,
         machine,
         &input[..n],
         planes,
@@ -172,6 +187,8 @@ fn read_once(
 
 // Reads while the run goes on. It begins as the theorem from bytes to text does, with zeroed buffers of the paper's lengths.
 fn read_all(
+    rt: &(impl Print + Eprint),
+    stdin: &mut impl Read,
     planes: &mut Planes,
     pixels: &mut Pixels,
     log: &mut Log,
@@ -189,36 +206,36 @@ fn read_all(
         ok: true,
         more: true,
     };
-    let mut reads_left = u64::MAX;
-    while reads_left > 0 {
+    for _ in 0..u64::MAX {
         if !run.more {
             return run;
         }
         let before = run.machine;
         run = read_once(
-            before, planes, pixels, log, scratch, values, mattes, input, text,
+            rt, stdin, before, planes, pixels, log, scratch, values, mattes, input, text,
         );
-        reads_left -= 1;
     }
     run
 }
 
 // The end of the input.
-fn end(machine: Machine, text: &mut Text) {
+fn end(rt: &(impl Print + Eprint), machine: Machine, text: &mut Text) {
     let n = records::machine::finish(machine, text);
-    write(text, n);
+    write(rt, text, n);
 }
 
-fn main() {
+fn main(rt: HostRuntime) {
     let mut planes = [0u64; PLANE_CELLS];
     let mut pixels = [0u64; CELLS];
     let mut log = [0u64; LOG];
     let mut scratch = [0u64; SCRATCH_CELLS];
     let mut values = [0u16; CELLS];
     let mut mattes = [0u8; CELLS];
-    let mut input = io::large_buffer();
-    let mut text = io::large_buffer();
+    let mut input = [0u8; READ];
+    let mut text = [0u8; BUFFER];
     let run = read_all(
+        &rt,
+        &mut rt.stdin(),
         &mut planes,
         &mut pixels,
         &mut log,
@@ -230,6 +247,6 @@ fn main() {
     );
     if run.ok {
         let machine = run.machine;
-        end(machine, &mut text);
+        end(&rt, machine, &mut text);
     }
 }

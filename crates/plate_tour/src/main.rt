@@ -3,38 +3,33 @@
 // kept under the brush, and these are printed.
 #![tactic(auto)]
 
-use libc::STDOUT_FILENO;
 use plate::{Lens, State};
+use std::io;
 
-fn print_cell(value: u16, matte: u8, end: &[u8]) {
-    io::print_decimal(STDOUT_FILENO, value as u64);
-    io::write_all(STDOUT_FILENO, b"/");
-    io::print_decimal(STDOUT_FILENO, matte as u64);
-    io::write_all(STDOUT_FILENO, end);
+fn print_cell(rt: &impl Print, value: u16, matte: u8, end: &str) -> io::Result<()> {
+    print!(rt; "{value}/{matte}{end}")
 }
 
-fn print_pictures(values: &[u16; 3], mattes: &[u8; 3]) {
-    print_cell(values[0], mattes[0], b" ");
-    print_cell(values[1], mattes[1], b" ");
-    print_cell(values[2], mattes[2], b"\n");
+fn print_pictures(rt: &impl Print, values: &[u16; 3], mattes: &[u8; 3]) -> io::Result<()> {
+    print_cell(rt, values[0], mattes[0], " ")?;
+    print_cell(rt, values[1], mattes[1], " ")?;
+    print_cell(rt, values[2], mattes[2], "\n")
 }
 
-fn print_show(state: State, planes: &[u64]) {
+fn print_show(rt: &impl Print, state: State, planes: &[u64]) -> io::Result<()> {
     let mut scratch = [0u64; 297];
     let mut values = [0u16; 3];
     let mut mattes = [0u8; 3];
     plate::show::show(state, planes, &mut scratch, &mut values, &mut mattes);
-    print_pictures(&values, &mattes);
+    print_pictures(rt, &values, &mattes)
 }
 
-fn print_total(state: State, planes: &[u64]) {
+fn print_total(rt: &impl Print, state: State, planes: &[u64]) -> io::Result<()> {
     let mut scratch = [0u64; 297];
     let totals = plate::total::total(state, planes, &mut scratch);
-    io::write_all(STDOUT_FILENO, b"total ");
-    io::print_decimal(STDOUT_FILENO, totals.light);
-    io::write_all(STDOUT_FILENO, b"/");
-    io::print_decimal(STDOUT_FILENO, totals.matte);
-    io::write_all(STDOUT_FILENO, b"\n");
+    let light = totals.light;
+    let matte = totals.matte;
+    println!(rt; "total {light}/{matte}")
 }
 
 // An opaque box.
@@ -90,7 +85,13 @@ fn put_pixel(
 }
 
 // A box put and taken back. The first show keeps its sums, and put and undo mend them and the pictures.
-fn paint(state: State, planes: &mut [u64; 1386], pixels: &mut [u64; 3], log: &mut [u64; 2]) {
+fn paint(
+    rt: &impl Print,
+    state: State,
+    planes: &mut [u64; 1386],
+    pixels: &mut [u64; 3],
+    log: &mut [u64; 2],
+) -> io::Result<()> {
     let mut scratch = [0u64; 297];
     let mut values = [0u16; 3];
     let mut mattes = [0u8; 3];
@@ -112,7 +113,7 @@ fn paint(state: State, planes: &mut [u64; 1386], pixels: &mut [u64; 3], log: &mu
         &mut values,
         &mut mattes,
     );
-    print_pictures(&values, &mattes);
+    print_pictures(rt, &values, &mattes)?;
     plate::kept::undo_kept(
         put,
         planes,
@@ -122,21 +123,21 @@ fn paint(state: State, planes: &mut [u64; 1386], pixels: &mut [u64; 3], log: &mu
         &mut values,
         &mut mattes,
     );
-    print_pictures(&values, &mattes);
+    print_pictures(rt, &values, &mattes)
 }
 
-fn main() {
+fn main(rt: HostRuntime) -> io::Result<()> {
     let mut planes = [0u64; 1386];
     let mut pixels = [0u64; 3];
     let mut log = [0u64; 2];
     let opened = plate::open::open(3, 1, 1, &mut planes, &mut pixels, &mut log);
     let first = put(opened.state, 1, 100, 1, &mut planes, &mut pixels, &mut log);
     let second = put(first, 0, 40, 0, &mut planes, &mut pixels, &mut log);
-    print_show(second, &planes);
-    print_total(second, &planes);
+    print_show(&rt, second, &planes)?;
+    print_total(&rt, second, &planes)?;
     let undone = plate::undo::undo(second, &mut planes, &mut pixels, &mut log);
-    print_show(undone.state, &planes);
+    print_show(&rt, undone.state, &planes)?;
     let filled = fill(undone.state, &mut planes, &mut pixels, &mut log);
-    print_show(filled, &planes);
-    paint(filled, &mut planes, &mut pixels, &mut log);
+    print_show(&rt, filled, &planes)?;
+    paint(&rt, filled, &mut planes, &mut pixels, &mut log)
 }

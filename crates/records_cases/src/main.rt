@@ -3,11 +3,15 @@
 // case's run.
 #![tactic(auto)]
 
-ghost use Rattle.std.specs.Prelude.{◌≤◌, ◌<◌, length};
+ghost use Rattle.std.specs.Prelude.{◌≤◌, ◌<◌, length, IfOk};
 
-use libc::{STDIN_FILENO, STDOUT_FILENO};
 use records::{Log, Machine, Mattes, Pixels, Planes, Scratch, Text, Values};
-use records_model::fixed::{CELLS, LOG, PLANE_CELLS, SCRATCH_CELLS};
+use records_model::fixed::{BUFFER, CELLS, LOG, PLANE_CELLS, SCRATCH_CELLS};
+use std::io;
+use std::io::Read;
+
+// The bytes of the cases, at most.
+const INPUT: usize = 65536;
 
 // A run on its way: the machine, and the first digit of a byte, 16 where none has been read.
 #[derive(Drop)]
@@ -34,14 +38,15 @@ fn digit(b: u8) -> u8 {
 }
 
 // The first bytes of the text are written.
-fn write(text: &[u8], n: usize)
+fn write(rt: &impl Print, text: &[u8], n: usize) -> io::Result<()>
     requires { n ≤ length text.now }
 {
-    io::write_all(STDOUT_FILENO, &text[..n]);
+    rt.write_all(&text[..n])
 }
 
 // A byte of a case's input, and the text that it brings.
 fn feed(
+    rt: &impl Print,
     machine: Machine,
     byte: u8,
     planes: &mut Planes,
@@ -51,14 +56,14 @@ fn feed(
     values: &mut Values,
     mattes: &mut Mattes,
     text: &mut Text,
-) -> Machine {
+) -> io::Result<Machine> {
     let part = [byte];
     let next = records::advance::advance(
         machine, &part, planes, pixels, log, scratch, values, mattes, text,
     );
     let n = next.written;
-    write(text, n);
-    next.machine
+    write(rt, text, n)?;
+    Ok(next.machine)
 }
 
 // The machine between two characters, with the first digit of a byte.
@@ -71,6 +76,7 @@ fn between(machine: Machine, half: u8) -> Run {
 
 // One character of a case.
 fn step(
+    rt: &impl Print,
     run: Run,
     b: u8,
     planes: &mut Planes,
@@ -80,16 +86,17 @@ fn step(
     values: &mut Values,
     mattes: &mut Mattes,
     text: &mut Text,
-) -> Run {
+) -> io::Result<Run> {
     let machine = run.machine;
     let d = digit(b);
     if d == 16 {
-        return between(machine, 16);
+        return Ok(between(machine, 16));
     }
     if run.half == 16 {
-        return between(machine, d);
+        return Ok(between(machine, d));
     }
     let next = feed(
+        rt,
         machine,
         (run.half << 4) | d,
         planes,
@@ -99,12 +106,13 @@ fn step(
         values,
         mattes,
         text,
-    );
-    between(next, 16)
+    )?;
+    Ok(between(next, 16))
 }
 
 // The characters of a case, on buffers of its own.
 fn characters(
+    rt: &impl Print,
     case: &[u8],
     planes: &mut Planes,
     pixels: &mut Pixels,
@@ -113,7 +121,7 @@ fn characters(
     values: &mut Values,
     mattes: &mut Mattes,
     text: &mut Text,
-) -> Machine {
+) -> io::Result<Machine> {
     let machine = records::machine::start();
     let mut run = Run {
         machine: machine,
@@ -121,28 +129,29 @@ fn characters(
     };
     for i in 0..case.len() {
         run = step(
-            run, case[i], planes, pixels, log, scratch, values, mattes, text,
-        );
+            rt, run, case[i], planes, pixels, log, scratch, values, mattes, text,
+        )?;
     }
-    run.machine
+    Ok(run.machine)
 }
 
 // The end of a case's input.
-fn end(machine: Machine, text: &mut Text) {
+fn end(rt: &impl Print, machine: Machine, text: &mut Text) -> io::Result<()> {
     let n = records::machine::finish(machine, text);
-    write(text, n);
+    write(rt, text, n)
 }
 
 // A case from its first character to the end of its input.
-fn run_case(case: &[u8]) {
+fn run_case(rt: &impl Print, case: &[u8]) -> io::Result<()> {
     let mut planes = [0u64; PLANE_CELLS];
     let mut pixels = [0u64; CELLS];
     let mut log = [0u64; LOG];
     let mut scratch = [0u64; SCRATCH_CELLS];
     let mut values = [0u16; CELLS];
     let mut mattes = [0u8; CELLS];
-    let mut text = io::large_buffer();
+    let mut text = [0u8; BUFFER];
     let machine = characters(
+        rt,
         case,
         &mut planes,
         &mut pixels,
@@ -151,8 +160,8 @@ fn run_case(case: &[u8]) {
         &mut values,
         &mut mattes,
         &mut text,
-    );
-    end(machine, &mut text);
+    )?;
+    end(rt, machine, &mut text)
 }
 
 // The place after the next occurrence of a byte, or the end.
@@ -169,31 +178,47 @@ fn after(input: &[u8], at: usize, byte: u8) -> usize
 }
 
 // One case: its name, up to the end of the line, and its run.
-fn named(case: &[u8])
+fn named(rt: &impl Print, case: &[u8]) -> io::Result<()>
     requires { 0 < length case.now }
 {
     let start = after(case, 0, b'\n');
-    io::write_all(STDOUT_FILENO, b"#");
-    io::write_all(STDOUT_FILENO, &case[..start]);
-    run_case(&case[start..]);
+    rt.write_all(b"#")?;
+    rt.write_all(&case[..start])?;
+    run_case(rt, &case[start..])
 }
 
 // Each case goes from a # to the next one.
-fn cases(input: &[u8]) {
+fn cases(rt: &impl Print, input: &[u8]) -> io::Result<()> {
     if input.len() == 0 {
-        return;
+        return Ok(());
     }
     let mut at = after(input, 0, b'#');
     while at < input.len() {
         let next = after(input, at, b'#');
-        named(&input[at..next]);
+        named(rt, &input[at..next])?;
         at = next;
     }
+    Ok(())
+}
+
+// Reads until the buffer is full or the input ends, and returns how many bytes it put at the start of the buffer.
+fn read_full(stdin: &mut impl Read, input: &mut [u8]) -> io::Result<usize>
+    ensures { IfOk result (λ n. n ≤ length input.new) }
+{
+    let mut done = 0;
+    while done < input.len() {
+        let n = stdin.read(&mut input[done..])?;
+        if n == 0 {
+            break;
+        }
+        done += n;
+    }
+    Ok(done)
 }
 
 // The text is at most 65,536 bytes long.
-fn main() {
-    let mut input = io::large_buffer();
-    let n = io::read_full(STDIN_FILENO, &mut input);
-    cases(&input[..n]);
+fn main(rt: HostRuntime) -> io::Result<()> {
+    let mut input = [0u8; INPUT];
+    let n = read_full(&mut rt.stdin(), &mut input)?;
+    cases(&rt, &input[..n])
 }
