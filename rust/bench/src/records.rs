@@ -31,7 +31,8 @@ fn stream() -> Vec<u8> {
 
 /// The best of a few runs by the wall clock, or nothing where there is no program.
 pub fn run() -> Option<Streamed> {
-    let program = Path::new(env!("CARGO_MANIFEST_DIR")).join("../../crates/lens_records/out/lens_records");
+    let program = Path::new(env!("CARGO_MANIFEST_DIR"))
+        .join("../../crates/lens_records/out/lens_records");
     if !program.is_file() {
         return None;
     }

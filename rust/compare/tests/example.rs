@@ -42,6 +42,7 @@ fn readme_line() -> (String, PathBuf) {
 /// `LENS_C_DIR` says.
 fn built_by_readme() -> PathBuf {
     let (line, program) = readme_line();
+    fs::create_dir_all(program.parent().expect("a folder")).expect("it can be made");
     let archives = archive_folder();
     let line = line.replace("crates/lens_c/out", archives.to_str().expect("a plain path"));
     done(Command::new("sh").args(["-c", &line]).current_dir(repository()));

@@ -1,6 +1,6 @@
 //! A sharp layer seen through a lens: each pixel spread into the shape of the lens opening.
 //!
-//! The engine behind this crate is written and proved in Rattle; `rt staticlib lens_c`
+//! The engine behind this crate is written and proved in Rattle; `rt lib` in crates/lens_c
 //! builds it. A [`Plate`] owns the buffers that the engine works on, and [`Plate::builder`]
 //! opens it. Pixels are set one by one ([`Plate::put`]) and stepped back ([`Plate::undo`]), or
 //! all at once by depth ([`Plate::fill`]). [`Plate::pixel`] reads one, [`Plate::show`] gives

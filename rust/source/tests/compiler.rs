@@ -96,7 +96,8 @@ fn copy_folder(from: &Path, to: &Path) -> io::Result<()> {
 /// A function starts with `["PATH",{"lifetimes":`, a call has `{"Fn":["PATH"`, and the type of an
 /// array is `"Array"`.
 fn compiled(form: &str) -> BTreeMap<String, Compiled> {
-    let starts: Vec<usize> = form.match_indices("\",{\"lifetimes\":").map(|(at, _)| at).collect();
+    let starts: Vec<usize> =
+        form.match_indices("\",{\"lifetimes\":").map(|(at, _)| at).collect();
     let ends = starts.iter().skip(1).copied().chain([form.len()]);
     let functions = starts.iter().zip(ends).map(|(&start, end)| {
         let name = form[..start].rsplit('"').next().expect("a name");
