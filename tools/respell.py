@@ -2,6 +2,7 @@
 """Brings this repository's own names of definitions, lemmas and modules of laws to Rattle's spelling: words in snake case, modules in camel case.
 
 usage: tools/respell.py [--list]        at the top of the repository, once, after the kit's own script for older repositories
+       tools/respell.py --proofs        what a function's Proof.antt names for itself; Rattle's own names there stay
 
 A word in mixed case is written in snake case (rowRadius: row_radius). A dash stays where it joins the names of two definitions
 (length-list_to) and is an underscore elsewhere (row_narrow), in a field always. A folder of laws below proofs/ gets the capital of
@@ -55,9 +56,37 @@ def imported(text):
     return names
 
 
+def in_proof(text):
+    """A function's proof with its own names in snake case: the parts and laws that it declares, and what it binds."""
+    code = re.sub(r"--[^\n]*", "", text)
+    own = {m[3] for m in DECLARED.finditer(code)}
+    for a, b, c in BOUND.findall(code):
+        own |= set((a or b or c).split())
+    words = set(TOKEN.findall(text))
+    new = {}
+    for name in sorted(n for n in own if NAME.match(n) and re.match(r"[a-z]", n)):
+        to = snake(name).replace("-", "_")
+        if to != name and to in words:
+            print("together: %s is %s_lem" % (name, to))
+            to += "_lem"
+        if to != name:
+            new[name] = to
+
+    def one(m):
+        is_read = text[: m.start()].endswith(".") and not text[: m.start()].endswith("λ.")
+        return m[0] if is_read else new.get(m[0], m[0])
+
+    return TOKEN.sub(one, text)
+
+
 def main():
     global OWN_PATH
     every = files()
+    if "--proofs" in sys.argv:
+        for f in every:
+            if is_proof(f):
+                write(f, in_proof(read(f)))
+        return
     crates = sorted({f.split("/")[1] for f in every if re.match(r"crates/[^/]+/src/", f)})
     OWN_PATH = re.compile(r"Rattle\.(%s)\." % "|".join(map(re.escape, crates)))
     antt = [f for f in every if f.endswith(".antt") and f.startswith("crates/")]

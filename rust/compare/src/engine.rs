@@ -70,7 +70,7 @@ pub trait Engine {
 #[cfg(feature = "proved")]
 pub struct Proved;
 
-/// The same method written by hand.
+/// The same calls written by hand; show and total go another way than the proved engine's.
 pub struct Handmade;
 
 /// The reference's own reading of what each call leaves: an engine too, only slow.

@@ -17,16 +17,16 @@ low : (c : tie.Else-top-radius) → let a = c.before.before.args in a.radius ≤
 low c = omega (arith, c.if-top-radius.false, c.before.top.ensures)
 
 -- the boxes' tap in the row's place is the row's own
-own-known : (c : tie.After-box_tap-own)
+own_known : (c : tie.After-box_tap-own)
     → let a = c.before.before.before.before.before.before.args in
     c.box_tap-own.result ≡ own_tap a.s a.radius a.dy
-own-known c = c.box_tap-own.ensures ∙ rw (c.before.before.before.boxes-n.ensures, c.before.height-tall.ensures)
+own_known c = c.box_tap-own.ensures ∙ rw (c.before.before.before.boxes-n.ensures, c.before.height-tall.ensures)
 
 returns : tie.Need-returns-then-top-radius
 returns c = sym (band_above _ _ _ _ (omega (arith, c.if-top-radius.true, c.before.top.ensures)))
 
-box-tap-requires : tie.Need-box_tap-own-requires
-box-tap-requires c κs =
+box_tap_requires : tie.Need-box_tap-own-requires
+box_tap_requires c κs =
     let else = c.before.before.before in
     let a = else.before.before.args in
     omega (
@@ -40,8 +40,8 @@ box-tap-requires c κs =
       top_small a.s,
     )
 
-span-of-requires : tie.Need-span_of-span-requires
-span-of-requires c κs =
+span_of_requires : tie.Need-span_of-span-requires
+span_of_requires c κs =
     let else = c.before.before.before.before in
     let a = else.before.before.args in
     omega (
@@ -54,8 +54,8 @@ span-of-requires c κs =
       top_small a.s,
     )
 
-cast-t14 : tie.Need-overflow_cast-result
-cast-t14 c =
+cast_t14 : tie.Need-overflow_cast-result
+cast_t14 c =
     let else = c.before.before.before.before.before.before in
     let a = else.before.before.args in
     omega (
@@ -66,19 +66,19 @@ cast-t14 c =
       top_small a.s,
     )
 
-cast-t15 : tie.Need-overflow_cast-result-2
-cast-t15 c =
+cast_t15 : tie.Need-overflow_cast-result-2
+cast_t15 c =
     let else = c.before.before.before.before.before.before in
     let a = else.before.before.args in
-    omega (arith, own-known c.before.before, own_small a.s a.radius a.dy (low else))
+    omega (arith, own_known c.before.before, own_small a.s a.radius a.dy (low else))
 
-returns-2 : tie.Need-returns
-returns-2 c =
+returns_2 : tie.Need-returns
+returns_2 c =
     let else = c.before.before.before.before.before.before in
     let a = else.before.before.args in
     let boxes = c.before.before.before.before.before.boxes-n.ensures in
     let wide = c.before.before.before.before.row_radius-wide.ensures in
-    let own = own-known c.before.before in
+    let own = own_known c.before.before in
     let span = c.before.span_of-span.ensures ∙ (λ i. within 1 (own i) (boxes i * wide i + 1)) in
     let rest = c.in_middle-rest.ensures in
     (λ i. record { shape = a.s; radius = wide i; span = span i; own = own i; each = a.share.each; rest = rest i })
@@ -93,9 +93,9 @@ band_of_spec =
     (λ c κs. search rules)
     (λ c κs. search rules)
     (λ c κs. search rules)
-    box-tap-requires
-    span-of-requires
+    box_tap_requires
+    span_of_requires
     (λ c κs. search rules)
-    cast-t14
-    cast-t15
-    returns-2)
+    cast_t14
+    cast_t15
+    returns_2)

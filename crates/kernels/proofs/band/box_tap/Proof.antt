@@ -36,40 +36,40 @@ closed : (c : tie.After-less-m)
     ≡ cells c * (cells c + 1)
 closed c = rw c.less-m.ensures (three_boxes _ _ (in_three c.before))
 
-mul-if1 : tie.Need-overflow_mul-boxes
-mul-if1 c = omega (arith, thrice_fits c.args.boxes c.args.radius (omega arith) (omega arith))
+mul_if1 : tie.Need-overflow_mul-boxes
+mul_if1 c = omega (arith, thrice_fits c.args.boxes c.args.radius (omega arith) (omega arith))
 
 returns : tie.Need-returns-then-boxes-radius
 returns c = sym (box_far _ _ _ c.if-boxes-radius.true)
 
-returns-2 : tie.Need-returns-then-boxes-eq1
-returns-2 c =
+returns_2 : tie.Need-returns-then-boxes-eq1
+returns_2 c =
     let near = rw c.if-boxes-eq1.true at c.before.if-boxes-radius.false in
     rw c.if-boxes-eq1.true (sym (one-box _ _ ∙ within_yes _ _ 1 (omega arith)))
 
-sub-result : tie.Need-overflow_sub-result
-sub-result c = omega (arith, in_two c)
+sub_result : tie.Need-overflow_sub-result
+sub_result c = omega (arith, in_two c)
 
-returns-3 : tie.Need-returns-then-boxes-eq2
-returns-3 c = rw c.if-boxes-eq2.true (sym (two_boxes _ _))
+returns_3 : tie.Need-returns-then-boxes-eq2
+returns_3 c = rw c.if-boxes-eq2.true (sym (two_boxes _ _))
 
-sub-e : tie.Need-overflow_sub-e
-sub-e c = omega (arith, in_three c)
+sub_e : tie.Need-overflow_sub-e
+sub_e c = omega (arith, in_three c)
 
-mul-result-2 : tie.Need-overflow_mul-result-2
-mul-result-2 c = omega (arith, thrice_fits (cells c) (cells c + 1) (omega arith) (omega arith))
+mul_result_2 : tie.Need-overflow_mul-result-2
+mul_result_2 c = omega (arith, thrice_fits (cells c) (cells c + 1) (omega arith) (omega arith))
 
-mul-result-3 : tie.Need-overflow_mul-result-3
-mul-result-3 c = omega (arith, thrice_fits c.less-m.result (c.less-m.result + 1) (omega arith) (omega arith))
+mul_result_3 : tie.Need-overflow_mul-result-3
+mul_result_3 c = omega (arith, thrice_fits c.less-m.result (c.less-m.result + 1) (omega arith) (omega arith))
 
-mul-result-4 : tie.Need-overflow_mul-result-4
-mul-result-4 c = thrice_fits c.less-m.result (c.less-m.result + 1) (omega arith) (omega arith)
+mul_result_4 : tie.Need-overflow_mul-result-4
+mul_result_4 c = thrice_fits c.less-m.result (c.less-m.result + 1) (omega arith) (omega arith)
 
-sub-result-2 : tie.Need-overflow_sub-result-2
-sub-result-2 c = omega (arith, closed c)
+sub_result_2 : tie.Need-overflow_sub-result-2
+sub_result_2 c = omega (arith, closed c)
 
-returns-4 : tie.Need-returns
-returns-4 c =
+returns_4 : tie.Need-returns
+returns_4 c =
     let e : c.before.before.before.before.args.boxes ≡ 3 = omega arith in
     rw e (omega (arith, closed c))
 
@@ -77,21 +77,21 @@ pub box_tap_spec : {M : Type 1} → statement M
 box_tap_spec =
     tie.close
     (tie.spec
-    mul-if1
+    mul_if1
     returns
-    returns-2
+    returns_2
     (λ c. search rules)
     (λ c. search rules)
-    sub-result
-    returns-3
+    sub_result
+    returns_3
     (λ c. search rules)
     (λ c. search rules)
-    sub-e
+    sub_e
     (λ c κs. search rules)
     (λ c. search rules)
-    mul-result-2
+    mul_result_2
     (λ c. search rules)
-    mul-result-3
-    mul-result-4
-    sub-result-2
-    returns-4)
+    mul_result_3
+    mul_result_4
+    sub_result_2
+    returns_4)

@@ -3,8 +3,8 @@ use borrow.Author.Rules.{rules}
 use Rattle.kernels.proofs.band.height.Statement.{statement}
 use Rattle.kernels.proofs.band.height.Tie as tie
 
-returns-5 : tie.Need-returns-in-Hexagon
-returns-5 c = rw c.in-Hexagon.is
+returns_5 : tie.Need-returns-in-Hexagon
+returns_5 c = rw c.in-Hexagon.is
 
 pub height_spec : {M : Type 1} → statement M
 height_spec =
@@ -21,5 +21,5 @@ height_spec =
     (λ c. search rules)
     (λ c. search rules)
     (λ c. search rules)
-    returns-5
+    returns_5
     (λ c. search rules))

@@ -10,9 +10,9 @@ returns : tie.Need-returns-then-boxes-ne1
 unfolding is_level
 returns c = rw (ne_eqb _ 1 (rw c.before.boxes.ensures at c.if-boxes-ne1.true))
 
-returns-2 : tie.Need-returns
+returns_2 : tie.Need-returns
 unfolding is_level
-returns-2 c = rw (eq-eqb _ 1 (sym c.before.before.boxes.ensures ∙ c.before.if-boxes-ne1.false))
+returns_2 c = rw (eq-eqb _ 1 (sym c.before.before.boxes.ensures ∙ c.before.if-boxes-ne1.false))
 
 pub is_level_spec : {M : Type 1} → statement M
-is_level_spec = tie.close (tie.spec (λ c κs. search rules) returns returns-2)
+is_level_spec = tie.close (tie.spec (λ c κs. search rules) returns returns_2)

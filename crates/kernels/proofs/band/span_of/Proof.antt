@@ -14,14 +14,14 @@ few_cells c = product_le _ _ 3 255 (omega arith) (omega arith)
 returns : tie.Need-returns-then-own-eq0
 returns c = sym (within_no 1 _ _ (omega arith))
 
-mul-result : tie.Need-overflow_mul-result
-mul-result c = omega (arith, few_cells c)
+mul_result : tie.Need-overflow_mul-result
+mul_result c = omega (arith, few_cells c)
 
-add-result : tie.Need-overflow_add-result
-add-result c = omega (arith, few_cells c)
+add_result : tie.Need-overflow_add-result
+add_result c = omega (arith, few_cells c)
 
-returns-2 : tie.Need-returns
-returns-2 c = sym (within_yes 1 _ _ (omega arith))
+returns_2 : tie.Need-returns
+returns_2 c = sym (within_yes 1 _ _ (omega arith))
 
 pub span_of_spec : {M : Type 1} → statement M
-span_of_spec = tie.close (tie.spec returns mul-result add-result returns-2)
+span_of_spec = tie.close (tie.spec returns mul_result add_result returns_2)

@@ -21,44 +21,44 @@ abbrev start : tie.After-in_middle-middle → tie.Start
 start c = c.before.before.before.before.before.before
 
 -- what a tap is worth, times the row's own tap
-worth-low : (s : tie.Start) → s.args.band.each * s.args.band.own ≤ 2 ^ 32 * 2 ^ 8
-worth-low s = product_le _ _ (2 ^ 32) (2 ^ 8) (omega (arith, s.well_formed)) (omega (arith, s.well_formed))
+worth_low : (s : tie.Start) → s.args.band.each * s.args.band.own ≤ 2 ^ 32 * 2 ^ 8
+worth_low s = product_le _ _ (2 ^ 32) (2 ^ 8) (omega (arith, s.well_formed)) (omega (arith, s.well_formed))
 
 -- a number in the middle alone is no larger
 same_le : (d n : ℕ) → same d 0 n ≤ n
 same_le d n = by_eq d 0 (λ e. omega (arith, same_yes d 0 n e)) (λ k. omega (arith, same_no d 0 n k))
 
-middle-low : (c : tie.After-in_middle-middle) → c.in_middle-middle.result ≤ 2 ^ 32
-middle-low c =
+middle_low : (c : tie.After-in_middle-middle) → c.in_middle-middle.result ≤ 2 ^ 32
+middle_low c =
     let s = start c in omega (arith, c.in_middle-middle.ensures, same_le s.args.dx s.args.band.rest, s.well_formed)
 
 -- the tap is the boxes', and below 2 ^ 20
-tap-known : (c : tie.After-box_tap) → let a = (start c.before.before.before).args in
+tap_known : (c : tie.After-box_tap) → let a = (start c.before.before.before).args in
     c.box_tap.result ≡ box_tap (boxes_of a.band.shape) a.band.radius a.dx
-tap-known c =
+tap_known c =
     let a = (start c.before.before.before).args in
     c.box_tap.ensures
     ∙ ap (λ (n : ℕ). box_tap n a.band.radius a.dx) c.before.before.before.before.before.before.boxes-n.ensures
 
-taps-low : (c : tie.After-box_tap) → let b = (start c.before.before.before).args.band in
+taps_low : (c : tie.After-box_tap) → let b = (start c.before.before.before).args.band in
     b.each * b.own * c.box_tap.result ≤ 2 ^ 32 * 2 ^ 8 * 2 ^ 20
-taps-low c =
+taps_low c =
     let s = start c.before.before.before in
     let small = tap_small s.args.band.shape s.args.band.radius s.args.dx (omega (arith, s.well_formed)) in
-    product_le _ _ (2 ^ 32 * 2 ^ 8) (2 ^ 20) (worth-low s) (omega (arith, tap-known c, small))
+    product_le _ _ (2 ^ 32 * 2 ^ 8) (2 ^ 20) (worth_low s) (omega (arith, tap_known c, small))
 
 returns : tie.Need-returns-then-band-dx
 returns c = sym (band_out _ _ c.if-band-dx.true)
 
-mul-worth : tie.Need-overflow_mul-worth
-mul-worth c = omega (arith, worth-low c.before.before.before.before.before)
+mul_worth : tie.Need-overflow_mul-worth
+mul_worth c = omega (arith, worth_low c.before.before.before.before.before)
 
-add-result : tie.Need-overflow_add-result
-add-result c = omega (arith, worth-low (start c.before), middle-low c.before)
+add_result : tie.Need-overflow_add-result
+add_result c = omega (arith, worth_low (start c.before), middle_low c.before)
 
-returns-2 : tie.Need-returns-then-n-eq1
+returns_2 : tie.Need-returns-then-n-eq1
 unfolding band_weight
-returns-2 c =
+returns_2 c =
     let made = c.before in
     let b = (start made).args.band in
     let else = made.before.before.before.before in
@@ -68,28 +68,28 @@ returns-2 c =
     ∙ omega (arith, ap (λ (n : ℕ). b.each * b.own * n) one)
     ∙ sym (within_yes (suc _) _ _ else.if-band-dx.false)
 
-box-tap-requires : tie.Need-box_tap-requires
-box-tap-requires c κs =
+box_tap_requires : tie.Need-box_tap-requires
+box_tap_requires c κs =
     let s = start c.before.before in
     let b = s.args.band in
     omega (arith, c.before.before.before.before.before.boxes-n.ensures, boxes_some b.shape, boxes_few b.shape, s.well_formed)
 
-mul-result : tie.Need-overflow_mul-result
-mul-result c = omega (arith, taps-low c)
+mul_result : tie.Need-overflow_mul-result
+mul_result c = omega (arith, taps_low c)
 
-add-result-2 : tie.Need-overflow_add-result-2
-add-result-2 c = omega (arith, taps-low c, middle-low c.before.before.before)
+add_result_2 : tie.Need-overflow_add-result-2
+add_result_2 c = omega (arith, taps_low c, middle_low c.before.before.before)
 
-returns-3 : tie.Need-returns
+returns_3 : tie.Need-returns
 unfolding band_weight
-returns-3 c =
+returns_3 c =
     let made = c.before.before.before in
     let b = (start made).args.band in
     let else = made.before.before.before.before in
     let more = rw made.before.before.before.boxes-n.ensures at c.before.before.if-n-eq1.false in
     let tap : box_tap (boxes_of b.shape) b.radius (start made).args.dx ≡ band_tap b (start made).args.dx =
     rw (ne_eqb (boxes_of b.shape) 1 more) in
-    (λ i. b.each * b.own * (tap-known c ∙ tap) i + made.in_middle-middle.ensures i)
+    (λ i. b.each * b.own * (tap_known c ∙ tap) i + made.in_middle-middle.ensures i)
     ∙ sym (within_yes (suc _) _ _ else.if-band-dx.false)
 
 pub weight_at_spec : {M : Type 1} → statement M
@@ -100,14 +100,14 @@ weight_at_spec =
     (λ c κs. search rules)
     (λ c. search rules)
     (λ c. search rules)
-    mul-worth
+    mul_worth
     (λ c κs. search rules)
     (λ c. search rules)
-    add-result
-    returns-2
+    add_result
+    returns_2
     (λ c. search rules)
-    box-tap-requires
-    mul-result
+    box_tap_requires
+    mul_result
     (λ c. search rules)
-    add-result-2
-    returns-3)
+    add_result_2
+    returns_3)

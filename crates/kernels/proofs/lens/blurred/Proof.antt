@@ -26,35 +26,35 @@ near c =
     (omega arith)
     (omega (arith, keeps (start c), c.apart.ensures))
 
-mul-scale-2 : tie.Need-overflow_mul-scale-2
-mul-scale-2 c = omega (arith, far c.before.before)
+mul_scale_2 : tie.Need-overflow_mul-scale-2
+mul_scale_2 c = omega (arith, far c.before.before)
 
-sub-past : tie.Need-overflow_sub-past
-sub-past c = omega (arith, keeps c.before.before.before.before)
+sub_past : tie.Need-overflow_sub-past
+sub_past c = omega (arith, keeps c.before.before.before.before)
 
-mul-rounded : tie.Need-overflow_mul-pitch
-mul-rounded c = omega (arith, far c.before.before.before.before.before)
+mul_rounded : tie.Need-overflow_mul-pitch
+mul_rounded c = omega (arith, far c.before.before.before.before.before)
 
-rounded-requires : tie.Need-rounded-requires
-rounded-requires c κs = omega (arith, far c.before.before.before.before.before)
+rounded_requires : tie.Need-rounded-requires
+rounded_requires c κs = omega (arith, far c.before.before.before.before.before)
 
 returns : tie.Need-returns-then-depth-eq0
 returns c = c.rounded.ensures ∙ sym (blur_far _ _ c.before.if-depth-eq0.true)
 
-mul-rounded-2 : tie.Need-overflow_mul-scale-3
-mul-rounded-2 c = omega (arith, near c)
+mul_rounded_2 : tie.Need-overflow_mul-scale-3
+mul_rounded_2 c = omega (arith, near c)
 
-mul-rounded-3 : tie.Need-overflow_mul-pitch-2
-mul-rounded-3 c = omega (arith, near c)
+mul_rounded_3 : tie.Need-overflow_mul-pitch-2
+mul_rounded_3 c = omega (arith, near c)
 
-mul-rounded-4 : tie.Need-overflow_mul-pitch-3
-mul-rounded-4 c = omega (arith, near c)
+mul_rounded_4 : tie.Need-overflow_mul-pitch-3
+mul_rounded_4 c = omega (arith, near c)
 
-rounded-requires-2 : tie.Need-rounded-requires-2
-rounded-requires-2 c κs = omega (arith, near c)
+rounded_requires_2 : tie.Need-rounded-requires-2
+rounded_requires_2 c κs = omega (arith, near c)
 
-returns-2 : tie.Need-returns
-returns-2 c =
+returns_2 : tie.Need-returns
+returns_2 c =
     rw (blur_near _ _ c.before.before.before.if-depth-eq0.false, ← c.before.apart.ensures)
     c.rounded-2.ensures
 
@@ -65,17 +65,17 @@ blurred_spec =
     (λ c. search rules)
     (λ c. search rules)
     (λ c. search rules)
-    mul-scale-2
+    mul_scale_2
     (λ c. search rules)
-    sub-past
+    sub_past
     (λ c. search rules)
-    mul-rounded
-    rounded-requires
+    mul_rounded
+    rounded_requires
     returns
     (λ c. search rules)
     (λ c κs. search rules)
-    mul-rounded-2
-    mul-rounded-3
-    mul-rounded-4
-    rounded-requires-2
-    returns-2)
+    mul_rounded_2
+    mul_rounded_3
+    mul_rounded_4
+    rounded_requires_2
+    returns_2)

@@ -17,26 +17,26 @@ returns : tie.Need-returns-then-not-lawful_lens
 unfolding radius_answer
 returns c = sym (no_lens _ _ _ (sym c.before.lawful_lens.ensures ∙ c.if-not-lawful_lens.true))
 
-returns-2 : tie.Need-returns-then-depth-gt-DEPTH_TOP
+returns_2 : tie.Need-returns-then-depth-gt-DEPTH_TOP
 unfolding radius_answer
-returns-2 c = sym (no_depth _ _ _ (lawful c.before) (omega arith))
+returns_2 c = sym (no_depth _ _ _ (lawful c.before) (omega arith))
 
-blurred-requires : tie.Need-blurred-r-requires
-blurred-requires c κs = (lawful c.before, omega arith)
+blurred_requires : tie.Need-blurred-r-requires
+blurred_requires c κs = (lawful c.before, omega arith)
 
-returns-3 : tie.Need-returns-then-r-top
+returns_3 : tie.Need-returns-then-r-top
 unfolding radius_answer
-returns-3 c =
+returns_3 c =
     rw (in_pixels _ _ _ (lawful c.before.before.before) c.before.before.if-depth-gt-DEPTH_TOP.false)
     (ap (number_and_value accepted) (omega (arith, c.before.blurred-r.ensures)))
 
-returns-4 : tie.Need-returns
+returns_4 : tie.Need-returns
 unfolding radius_answer
-returns-4 c =
+returns_4 c =
     rw (in_pixels _ _ _ (lawful c.before.before.before) c.before.before.if-depth-gt-DEPTH_TOP.false)
     (ap (number_and_value accepted) (omega (arith, c.before.blurred-r.ensures)))
 
 pub radius_from_spec : {M : Type 1} → statement M
 radius_from_spec =
     tie.close
-    (tie.spec (λ c κs. search rules) returns returns-2 blurred-requires (λ c. search rules) returns-3 returns-4)
+    (tie.spec (λ c κs. search rules) returns returns_2 blurred_requires (λ c. search rules) returns_3 returns_4)

@@ -9,25 +9,25 @@ returns : tie.Need-returns-in-Box
 unfolding drawing_of
 returns c = rw c.in-Box.is refl
 
-returns-2 : tie.Need-returns-in-Tent
+returns_2 : tie.Need-returns-in-Tent
 unfolding drawing_of
-returns-2 c = rw c.in-Tent.is refl
+returns_2 c = rw c.in-Tent.is refl
 
-returns-3 : tie.Need-returns-in-Triple
+returns_3 : tie.Need-returns-in-Triple
 unfolding drawing_of
-returns-3 c = rw c.in-Triple.is refl
+returns_3 c = rw c.in-Triple.is refl
 
-returns-4 : tie.Need-returns-in-Diamond
+returns_4 : tie.Need-returns-in-Diamond
 unfolding drawing_of
-returns-4 c = rw (c.before.in-Diamond.is, c.piece_ends.ensures) refl
+returns_4 c = rw (c.before.in-Diamond.is, c.piece_ends.ensures) refl
 
-returns-5 : tie.Need-returns-in-Hexagon
+returns_5 : tie.Need-returns-in-Hexagon
 unfolding drawing_of
-returns-5 c = rw (c.before.in-Hexagon.is, c.piece_ends-in-Hexagon.ensures) refl
+returns_5 c = rw (c.before.in-Hexagon.is, c.piece_ends-in-Hexagon.ensures) refl
 
-returns-6 : tie.Need-returns-in-Octagon
+returns_6 : tie.Need-returns-in-Octagon
 unfolding drawing_of
-returns-6 c = rw (c.before.in-Octagon.is, c.piece_ends-in-Octagon.ensures) refl
+returns_6 c = rw (c.before.in-Octagon.is, c.piece_ends-in-Octagon.ensures) refl
 
 pub draw_spec : {M : Type 1} → statement M
 draw_spec =
@@ -53,8 +53,8 @@ draw_spec =
     (λ c. search rules)
     (λ c κs. search rules)
     returns
-    returns-2
-    returns-3
-    returns-4
-    returns-5
-    returns-6)
+    returns_2
+    returns_3
+    returns_4
+    returns_5
+    returns_6)

@@ -9,14 +9,14 @@ use borrow.Author.Rules.{rules}
 use Rattle.kernels.proofs.rounding.rounded_even.Statement.{statement}
 use Rattle.kernels.proofs.rounding.rounded_even.Tie as tie
 
-sub-if1 : tie.Need-overflow_sub-matte
-sub-if1 c = omega (arith, mod-lt c.args.light c.requires)
+sub_if1 : tie.Need-overflow_sub-matte
+sub_if1 c = omega (arith, mod-lt c.args.light c.requires)
 
-add-if1 : tie.Need-overflow_add-rest
-add-if1 c = omega (arith, mod-lt c.args.light c.requires)
+add_if1 : tie.Need-overflow_add-rest
+add_if1 c = omega (arith, mod-lt c.args.light c.requires)
 
-add-result : tie.Need-overflow_add-result
-add-result c =
+add_result : tie.Need-overflow_add-result
+add_result c =
     let light = c.before.args.light in
     let matte = c.before.args.matte in
     let two : 2 ≤ matte = omega (arith, mod-lt light c.before.requires) in
@@ -25,8 +25,8 @@ add-result c =
 returns : tie.Need-returns-then-matte-rest
 returns c = sym (even_up c.before.args.light c.before.args.matte c.before.requires (omega arith))
 
-returns-2 : tie.Need-returns
-returns-2 c = sym (even_down c.before.args.light c.before.args.matte (omega arith))
+returns_2 : tie.Need-returns
+returns_2 c = sym (even_down c.before.args.light c.before.args.matte (omega arith))
 
 pub rounded_even_spec : {M : Type 1} → statement M
-rounded_even_spec = tie.close (tie.spec (λ c. search rules) (λ c. search rules) sub-if1 add-if1 add-result returns returns-2)
+rounded_even_spec = tie.close (tie.spec (λ c. search rules) (λ c. search rules) sub_if1 add_if1 add_result returns returns_2)

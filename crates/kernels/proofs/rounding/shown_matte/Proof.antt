@@ -9,9 +9,9 @@ returns : tie.Need-returns-then-matte-lt-WHOLE
 unfolding shown_matte nearest
 returns c = omega arith
 
-returns-2 : tie.Need-returns
+returns_2 : tie.Need-returns
 unfolding shown_matte nearest
-returns-2 c = omega arith
+returns_2 c = omega arith
 
 pub shown_matte_spec : {M : Type 1} → statement M
-shown_matte_spec = tie.close (tie.spec (λ c. search rules) (λ c. search rules) returns returns-2)
+shown_matte_spec = tie.close (tie.spec (λ c. search rules) (λ c. search rules) returns returns_2)

@@ -9,11 +9,11 @@ use Rattle.kernels.proofs.rounding.shown_value.Tie as tie
 returns : tie.Need-returns-then-matte-eq0
 returns c = sym (value_none _ _ c.if-matte-eq0.true)
 
-returns-2 : tie.Need-returns-then-q
-returns-2 c = rw (value_some _ _ c.before.before.if-matte-eq0.false) (omega (arith, c.before.rounded_even-q.ensures))
+returns_2 : tie.Need-returns-then-q
+returns_2 c = rw (value_some _ _ c.before.before.if-matte-eq0.false) (omega (arith, c.before.rounded_even-q.ensures))
 
-returns-3 : tie.Need-returns
-returns-3 c = rw (value_some _ _ c.before.before.if-matte-eq0.false) (omega (arith, c.before.rounded_even-q.ensures))
+returns_3 : tie.Need-returns
+returns_3 c = rw (value_some _ _ c.before.before.if-matte-eq0.false) (omega (arith, c.before.rounded_even-q.ensures))
 
 pub shown_value_spec : {M : Type 1} → statement M
-shown_value_spec = tie.close (tie.spec returns (λ c κs. search rules) (λ c. search rules) (λ c. search rules) returns-2 returns-3)
+shown_value_spec = tie.close (tie.spec returns (λ c κs. search rules) (λ c. search rules) (λ c. search rules) returns_2 returns_3)

@@ -6,8 +6,8 @@ use borrow.Author.Rules.{rules}
 use Rattle.kernels.proofs.shape.reach.Statement.{statement}
 use Rattle.kernels.proofs.shape.reach.Tie as tie
 
-mul-result : tie.Need-overflow_mul-result
-mul-result c =
+mul_result : tie.Need-overflow_mul-result
+mul_result c =
     omega (
       arith,
       product_le c.boxes.result c.before.args.radius 3 255
@@ -19,4 +19,4 @@ returns : tie.Need-returns
 returns c = rw c.boxes.ensures
 
 pub reach_spec : {M : Type 1} → statement M
-reach_spec = tie.close (tie.spec (λ c κs. search rules) mul-result returns)
+reach_spec = tie.close (tie.spec (λ c κs. search rules) mul_result returns)

@@ -7,17 +7,17 @@ use borrow.Author.Rules.{rules}
 use Rattle.kernels.proofs.share.share_in.Statement.{statement}
 use Rattle.kernels.proofs.share.share_in.Tie as tie
 
-element-copy-out-each : tie.Need-bounds-table-place
-element-copy-out-each c = omega (arith, number_le c.before.before.args.s)
+element_copy_out_each : tie.Need-bounds-table-place
+element_copy_out_each c = omega (arith, number_le c.before.before.args.s)
 
-element-copy-out-rest : tie.Need-bounds-table-place-then-radius-lt-RADII
-element-copy-out-rest c = omega (arith, number_le c.before.before.before.args.s)
+element_copy_out_rest : tie.Need-bounds-table-place-then-radius-lt-RADII
+element_copy_out_rest c = omega (arith, number_le c.before.before.before.args.s)
 
 returns : tie.Need-returns-then-radius-lt-RADII
 returns c = rw c.before.before.number.ensures (sym (share_there _ _ _ (omega arith)))
 
-returns-2 : tie.Need-returns-else-radius-lt-RADII
-returns-2 c = sym (share_nowhere _ _ _ (omega arith))
+returns_2 : tie.Need-returns-else-radius-lt-RADII
+returns_2 c = sym (share_nowhere _ _ _ (omega arith))
 
 pub share_in_spec : {M : Type 1} → statement M
 share_in_spec =
@@ -29,9 +29,9 @@ share_in_spec =
     (λ c. search rules)
     (λ c. search rules)
     (λ c. search rules)
-    element-copy-out-each
+    element_copy_out_each
     (λ c. search rules)
     (λ c. search rules)
-    element-copy-out-rest
+    element_copy_out_rest
     returns
-    returns-2)
+    returns_2)

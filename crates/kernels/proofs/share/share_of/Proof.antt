@@ -13,15 +13,15 @@ use Rattle.kernels.proofs.share.share_of.Tie as tie
 returns : tie.Need-returns-then-top-radius
 returns c = sym (parts_above _ _ (omega arith))
 
-div-t7 : tie.Need-nonzero_div-result
-div-t7 c = rw c.area_of-area.ensures (area_some _ _)
+div_t7 : tie.Need-nonzero_div-result
+div_t7 c = rw c.area_of-area.ensures (area_some _ _)
 
-rem-t8 : tie.Need-nonzero_rem-result
-rem-t8 c = rw c.area_of-area.ensures (area_some _ _)
+rem_t8 : tie.Need-nonzero_rem-result
+rem_t8 c = rw c.area_of-area.ensures (area_some _ _)
 
-returns-2 : tie.Need-returns
+returns_2 : tie.Need-returns
 unfolding share_for rest_for
-returns-2 c = rw (c.area_of-area.ensures, mod-eq-sub-div-mul) (sym (parts_under _ _ (omega arith)))
+returns_2 c = rw (c.area_of-area.ensures, mod-eq-sub-div-mul) (sym (parts_under _ _ (omega arith)))
 
 pub share_of_spec : {M : Type 1} → statement M
-share_of_spec = tie.close (tie.spec (λ c κs. search rules) returns (λ c κs. search rules) div-t7 rem-t8 returns-2)
+share_of_spec = tie.close (tie.spec (λ c κs. search rules) returns (λ c κs. search rules) div_t7 rem_t8 returns_2)

@@ -38,17 +38,17 @@ asked c = ask-accepted _ _ _ _ (plate_accepted _ _ _ (passed c).0).1
 abbrev checked : tie.After-unpack → tie.In-ToPut
 checked c = c.before.before.before
 
-mul-place : tie.Need-overflow_mul-place
-mul-place c = omega (arith, (asked c.before).place_in, (plate c.before).lawful.places_top_fact)
+mul_place : tie.Need-overflow_mul-place
+mul_place c = omega (arith, (asked c.before).place_in, (plate c.before).lawful.places_top_fact)
 
-add-place : tie.Need-overflow_add-place
-add-place c = omega (arith, (asked c.before).place_in, (plate c.before).lawful.places_top_fact)
+add_place : tie.Need-overflow_add-place
+add_place c = omega (arith, (asked c.before).place_in, (plate c.before).lawful.places_top_fact)
 
-mul-unpack : tie.Need-offset_bounds-pixels-place
-mul-unpack c = omega (arith, (asked c.before).place_in, (plate c.before).lawful.places_top_fact)
+mul_unpack : tie.Need-offset_bounds-pixels-place
+mul_unpack c = omega (arith, (asked c.before).place_in, (plate c.before).lawful.places_top_fact)
 
-shared-slice-read-unpack : tie.Need-bounds-pixels-place
-shared-slice-read-unpack c =
+shared_slice_read_unpack : tie.Need-bounds-pixels-place
+shared_slice_read_unpack c =
     let told = c.before.before in
     omega (arith, (asked told).place_in, (plate told).lent.pixels_are)
 
@@ -58,17 +58,17 @@ returns c =
     let unpacked = c.before in
     rw ((passed (checked unpacked)).0, ← unpacked.unpack.ensures, c.in_default.is)
 
-returns-2 : tie.Need-returns-in-Whole
+returns_2 : tie.Need-returns-in-Whole
 unfolding put_read put_read_by put_over
-returns-2 c =
+returns_2 c =
     let old = c in
     let unpacked = old.before in
     let told = passed (checked unpacked) in
     rw (told.0, ← unpacked.unpack.ensures, old.in-Whole.is, ← told.1)
 
-returns-3 : tie.Need-returns-in-NoPut
+returns_3 : tie.Need-returns-in-NoPut
 unfolding put_read put_read_by
-returns-3 c =
+returns_3 c =
     let found = c in
     let s = start found.before in
     let refused = sym found.before.check_put.ensures ∙ found.in-NoPut.is in
@@ -80,14 +80,14 @@ read_put_spec =
     (tie.spec
     (λ c κs. search rules)
     (λ c. search rules)
-    mul-place
-    add-place
-    mul-unpack
-    shared-slice-read-unpack
+    mul_place
+    add_place
+    mul_unpack
+    shared_slice_read_unpack
     (λ c κs. search rules)
     (λ c. search rules)
     (λ c. search rules)
     returns
     (λ c. search rules)
-    returns-2
-    returns-3)
+    returns_2
+    returns_3)

@@ -65,38 +65,38 @@ returns c =
     let found = c in
     rw (← found.before.check_undo-check.ensures, found.in-Refused.is)
 
-sub-last : tie.Need-overflow_sub-last
-sub-last c = some c.before
+sub_last : tie.Need-overflow_sub-last
+sub_last c = some c.before
 
-mul-word : tie.Need-offset_bounds-log-last
-mul-word c =
+mul_word : tie.Need-offset_bounds-log-last
+mul_word c =
     let told = c.before in omega (arith, some told, (plate told).count_in, (plate told).lent.log_top_fact)
 
-shared-slice-read-word : tie.Need-bounds-log-last
-shared-slice-read-word c = let told = c.before.before in omega (arith, some told, (plate told).count_in)
+shared_slice_read_word : tie.Need-bounds-log-last
+shared_slice_read_word c = let told = c.before.before in omega (arith, some told, (plate told).count_in)
 
-unpack-entry-requires : tie.Need-unpack_entry-requires
-unpack-entry-requires c κs = (plate c.before.before).lawful
+unpack_entry_requires : tie.Need-unpack_entry-requires
+unpack_entry_requires c κs = (plate c.before.before).lawful
 
-returns-2 : tie.Need-returns-in_default-unpack_entry
+returns_2 : tie.Need-returns-in_default-unpack_entry
 unfolding undo_read undo_read_by undo_entry
-returns-2 c =
+returns_2 c =
     let unpacked = c.before in
     rw (checked (passed unpacked), ← unpacked.unpack_entry.ensures, c.in_default-unpack_entry.is)
 
-mul-unpack : tie.Need-offset_bounds-pixels-place
-mul-unpack c =
+mul_unpack : tie.Need-offset_bounds-pixels-place
+mul_unpack c =
     let entry = c in
     omega (arith, inside entry, (plate (passed entry.before)).lawful.places_top_fact)
 
-shared-slice-read-unpack : tie.Need-bounds-pixels-place
-shared-slice-read-unpack c =
+shared_slice_read_unpack : tie.Need-bounds-pixels-place
+shared_slice_read_unpack c =
     let entry = c.before in
     omega (arith, inside entry, (plate (passed entry.before)).lent.pixels_are)
 
-returns-3 : tie.Need-returns-in_default-unpack
+returns_3 : tie.Need-returns-in_default-unpack
 unfolding undo_read undo_read_by undo_entry undo_over
-returns-3 c =
+returns_3 c =
     let unpacked = c.before in
     let entry = last unpacked in
     rw (
@@ -105,17 +105,17 @@ returns-3 c =
       sym unpacked.unpack.ensures ∙ c.in_default-unpack.is,
     )
 
-rem-x : tie.Need-nonzero_rem-x
-rem-x c =
+rem_x : tie.Need-nonzero_rem-x
+rem_x c =
     (plate (passed (last c.before.before).before)).lawful.width_some
 
-div-y : tie.Need-nonzero_div-y
-div-y c =
+div_y : tie.Need-nonzero_div-y
+div_y c =
     (plate (passed (last c.before.before).before)).lawful.width_some
 
-returns-4 : tie.Need-returns
+returns_4 : tie.Need-returns
 unfolding undo_read undo_read_by undo_entry undo_over
-returns-4 c =
+returns_4 c =
     let old = c.before in
     let entry = last old.before in
     rw (checked (passed entry.before), logged entry, read old)
@@ -128,19 +128,19 @@ read_undo_spec =
     (λ c. search rules)
     returns
     (λ c. search rules)
-    sub-last
-    mul-word
-    shared-slice-read-word
-    unpack-entry-requires
+    sub_last
+    mul_word
+    shared_slice_read_word
+    unpack_entry_requires
     (λ c. search rules)
     (λ c. search rules)
-    returns-2
-    mul-unpack
-    shared-slice-read-unpack
+    returns_2
+    mul_unpack
+    shared_slice_read_unpack
     (λ c κs. search rules)
     (λ c. search rules)
     (λ c. search rules)
-    returns-3
-    rem-x
-    div-y
-    returns-4)
+    returns_3
+    rem_x
+    div_y
+    returns_4)

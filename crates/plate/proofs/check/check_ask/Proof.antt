@@ -9,33 +9,33 @@ returns : tie.Need-returns-then-width-x
 unfolding ask_check place_check shape_check radius_check refuse_if
 returns c = search tests
 
-returns-2 : tie.Need-returns-then-height-y
+returns_2 : tie.Need-returns-then-height-y
 unfolding ask_check place_check shape_check radius_check refuse_if
-returns-2 c = search tests
+returns_2 c = search tests
 
-returns-3 : tie.Need-returns-then-value-gt-VALUE_TOP
+returns_3 : tie.Need-returns-then-value-gt-VALUE_TOP
 unfolding ask_check place_check shape_check radius_check refuse_if
-returns-3 c = search tests
+returns_3 c = search tests
 
-returns-4 : tie.Need-returns-in_default
+returns_4 : tie.Need-returns-in_default
 unfolding ask_check place_check shape_check radius_check refuse_if
-returns-4 c = rw c.in_default.is (search tests)
+returns_4 c = rw c.in_default.is (search tests)
 
-returns-5 : tie.Need-returns-then-top_under-radius
+returns_5 : tie.Need-returns-then-top_under-radius
 unfolding ask_check place_check shape_check radius_check refuse_if
-returns-5 c =
+returns_5 c =
     let topped = c.before in
     rw (topped.before.in-Known.is, ← topped.top_under.ensures) (search tests)
 
-returns-6 : tie.Need-returns-then-count-log
+returns_6 : tie.Need-returns-then-count-log
 unfolding ask_check place_check shape_check radius_check refuse_if
-returns-6 c =
+returns_6 c =
     let topped = c.before.before in
     rw (topped.before.in-Known.is, ← topped.top_under.ensures) (search tests)
 
-returns-7 : tie.Need-returns
+returns_7 : tie.Need-returns
 unfolding ask_check place_check shape_check radius_check refuse_if
-returns-7 c =
+returns_7 c =
     let topped = c.before.before in
     rw (topped.before.in-Known.is, ← topped.top_under.ensures) (search tests)
 
@@ -44,12 +44,12 @@ check_ask_spec =
     tie.close
     (tie.spec
     returns
-    returns-2
-    returns-3
+    returns_2
+    returns_3
     (λ c. search rules)
     (λ c. search rules)
-    returns-4
+    returns_4
     (λ c κs. search rules)
-    returns-5
-    returns-6
-    returns-7)
+    returns_5
+    returns_6
+    returns_7)

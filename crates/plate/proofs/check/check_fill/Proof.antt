@@ -30,14 +30,14 @@ returns : tie.Need-returns-in_default
 unfolding fill_lengths
 returns c = rw (open_before, ← c.before.check_open-plate.ensures, c.in_default.is)
 
-check-inputs-requires : tie.Need-check_inputs-inputs-requires
+check_inputs_requires : tie.Need-check_inputs-inputs-requires
 unfolding open_check
-check-inputs-requires c κs =
+check_inputs_requires c κs =
     (sizes_passed _ _ (sym c.before.check_open-plate.ensures ∙ c.in-Accepted.is)).0
 
-returns-2 : tie.Need-returns-in_default-inputs
+returns_2 : tie.Need-returns-in_default-inputs
 unfolding fill_lengths
-returns-2 c =
+returns_2 c =
     let told = c.before.before in
     rw (
       open_before,
@@ -48,13 +48,13 @@ returns-2 c =
       c.in_default-inputs.is,
     )
 
-returns-3 : tie.Need-returns-then-log-count
+returns_3 : tie.Need-returns-then-log-count
 unfolding fill_lengths refuse_if
-returns-3 c = rw (past c.before _, lt-ltb _ _ c.if-log-count.true)
+returns_3 c = rw (past c.before _, lt-ltb _ _ c.if-log-count.true)
 
-returns-4 : tie.Need-returns
+returns_4 : tie.Need-returns
 unfolding fill_lengths refuse_if
-returns-4 c = rw (past c.before _, le-ltb _ _ c.if-log-count.false)
+returns_4 c = rw (past c.before _, le-ltb _ _ c.if-log-count.false)
 
 pub check_fill_spec : {M : Type 1} → statement M
 check_fill_spec =
@@ -64,9 +64,9 @@ check_fill_spec =
     (λ c. search rules)
     (λ c. search rules)
     returns
-    check-inputs-requires
+    check_inputs_requires
     (λ c. search rules)
     (λ c. search rules)
-    returns-2
-    returns-3
-    returns-4)
+    returns_2
+    returns_3
+    returns_4)

@@ -23,37 +23,37 @@ returns c =
     let sizes = c.before in
     rw (sizes_before sizes.before.args.size Accepted _, ← sizes.check_sizes-sizes.ensures, c.in_default.is)
 
-mul-places : tie.Need-overflow_mul-places
-mul-places c =
+mul_places : tie.Need-overflow_mul-places
+mul_places c =
     let law = lawful c.before in
     omega (arith, places_small _ _ law.width_top law.height_top)
 
-mul-if1 : tie.Need-overflow_mul-places-2
-mul-if1 c =
+mul_if1 : tie.Need-overflow_mul-places-2
+mul_if1 c =
     let law = lawful c.before in
     omega (arith, places_small _ _ law.width_top law.height_top)
 
-returns-2 : tie.Need-returns-then-sums-places
+returns_2 : tie.Need-returns-then-sums-places
 unfolding kept_check canvas_check refuse_if
-returns-2 c =
+returns_2 c =
     let told = c.before.before in
     rw (sizes_pass (start told).args.size _ (lawful told)) (search tests)
 
-returns-3 : tie.Need-returns-then-values-places
+returns_3 : tie.Need-returns-then-values-places
 unfolding kept_check canvas_check refuse_if
-returns-3 c =
+returns_3 c =
     let told = c.before.before.before in
     rw (sizes_pass (start told).args.size _ (lawful told)) (search tests)
 
-returns-4 : tie.Need-returns-then-mattes-places
+returns_4 : tie.Need-returns-then-mattes-places
 unfolding kept_check canvas_check refuse_if
-returns-4 c =
+returns_4 c =
     let told = c.before.before.before.before in
     rw (sizes_pass (start told).args.size _ (lawful told)) (search tests)
 
-returns-5 : tie.Need-returns
+returns_5 : tie.Need-returns
 unfolding kept_check canvas_check refuse_if
-returns-5 c =
+returns_5 c =
     let told = c.before.before.before.before in
     rw (sizes_pass (start told).args.size _ (lawful told)) (search tests)
 
@@ -65,9 +65,9 @@ check_kept_spec =
     (λ c. search rules)
     (λ c. search rules)
     returns
-    mul-places
-    mul-if1
-    returns-2
-    returns-3
-    returns-4
-    returns-5)
+    mul_places
+    mul_if1
+    returns_2
+    returns_3
+    returns_4
+    returns_5)

@@ -15,8 +15,8 @@ cells c = ap (λ (f : Frame). f.padded) c.frame_of-frame.ensures
 all : (c : tie.After-frame_of-frame) → c.frame_of-frame.result.places ≡ places c.before.args.size
 all c = ap (λ (f : Frame). f.places) c.frame_of-frame.ensures
 
-mul-if1 : tie.Need-overflow_mul-cells
-mul-if1 c =
+mul_if1 : tie.Need-overflow_mul-cells
+mul_if1 c =
     let framed = c in
     omega (arith, cells framed, padded_small framed.before.args.size framed.before.requires)
 
@@ -24,21 +24,21 @@ returns : tie.Need-returns-then-planes-cells
 unfolding lent_check refuse_if
 returns c = let framed = c.before in rw (← cells framed, ← all framed) (search tests)
 
-returns-2 : tie.Need-returns-then-pixels-places
+returns_2 : tie.Need-returns-then-pixels-places
 unfolding lent_check refuse_if
-returns-2 c =
+returns_2 c =
     let framed = c.before.before in rw (← cells framed, ← all framed) (search tests)
 
-returns-3 : tie.Need-returns-then-log-gt-LOG_TOP
+returns_3 : tie.Need-returns-then-log-gt-LOG_TOP
 unfolding lent_check refuse_if
-returns-3 c =
+returns_3 c =
     let framed = c.before.before.before in rw (← cells framed, ← all framed) (search tests)
 
-returns-4 : tie.Need-returns
+returns_4 : tie.Need-returns
 unfolding lent_check refuse_if
-returns-4 c =
+returns_4 c =
     let framed = c.before.before.before in rw (← cells framed, ← all framed) (search tests)
 
 pub check_lent_spec : {M : Type 1} → statement M
 check_lent_spec =
-    tie.close (tie.spec (λ c κs. search rules) mul-if1 returns returns-2 returns-3 returns-4)
+    tie.close (tie.spec (λ c κs. search rules) mul_if1 returns returns_2 returns_3 returns_4)

@@ -13,13 +13,13 @@ returns c =
     let sizes = c.before in
     rw (sizes_before sizes.before.args.size Accepted _, ← sizes.check_sizes-sizes.ensures, c.in_default.is)
 
-check-lent-requires : tie.Need-check_lent-requires
-check-lent-requires c κs =
+check_lent_requires : tie.Need-check_lent-requires
+check_lent_requires c κs =
     (sizes_passed _ Accepted (sym c.before.check_sizes-sizes.ensures ∙ c.in-Accepted.is)).0
 
-returns-2 : tie.Need-returns
+returns_2 : tie.Need-returns
 unfolding open_check
-returns-2 c =
+returns_2 c =
     let sizes = c.before.before in
     rw (
       sizes_before sizes.before.args.size Accepted _,
@@ -31,4 +31,4 @@ returns-2 c =
 pub check_open_spec : {M : Type 1} → statement M
 check_open_spec =
     tie.close
-    (tie.spec (λ c κs. search rules) (λ c. search rules) (λ c. search rules) returns check-lent-requires returns-2)
+    (tie.spec (λ c κs. search rules) (λ c. search rules) (λ c. search rules) returns check_lent_requires returns_2)

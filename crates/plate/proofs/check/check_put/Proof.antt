@@ -9,13 +9,13 @@ returns : tie.Need-returns-in-Refused
 unfolding put_check
 returns c = rw (plate_before, ← c.before.check_plate-plate.ensures, c.in-Refused.is)
 
-returns-2 : tie.Need-returns
+returns_2 : tie.Need-returns
 unfolding put_check
-returns-2 c =
+returns_2 c =
     let told = c.before in
     rw (plate_before, ← told.before.check_plate-plate.ensures, told.in_default.is) c.check_ask.ensures
 
 pub check_put_spec : {M : Type 1} → statement M
 check_put_spec =
     tie.close
-    (tie.spec (λ c κs. search rules) (λ c. search rules) returns (λ c. search rules) (λ c κs. search rules) returns-2)
+    (tie.spec (λ c κs. search rules) (λ c. search rules) returns (λ c. search rules) (λ c κs. search rules) returns_2)

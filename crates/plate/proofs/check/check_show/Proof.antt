@@ -23,29 +23,29 @@ returns c =
     let a = (start summed).args in
     rw (total_before a.state.size a.planes a.scratch _, ← summed.check_total-summed.ensures, c.in_default.is)
 
-mul-places : tie.Need-overflow_mul-places
+mul_places : tie.Need-overflow_mul-places
 unfolding total_check
-mul-places c =
+mul_places c =
     let told = c.before in
     omega (arith, (sizes_passed _ _ (passed told)).0.places_top_fact)
 
-returns-2 : tie.Need-returns-then-values-places
+returns_2 : tie.Need-returns-then-values-places
 unfolding show_check views_check refuse_if
-returns-2 c =
+returns_2 c =
     let told = c.before.before in
     let a = (start told.before).args in
     rw (total_before a.state.size a.planes a.scratch _, passed told) (search tests)
 
-returns-3 : tie.Need-returns-then-mattes-places
+returns_3 : tie.Need-returns-then-mattes-places
 unfolding show_check views_check refuse_if
-returns-3 c =
+returns_3 c =
     let told = c.before.before.before in
     let a = (start told.before).args in
     rw (total_before a.state.size a.planes a.scratch _, passed told) (search tests)
 
-returns-4 : tie.Need-returns
+returns_4 : tie.Need-returns
 unfolding show_check views_check refuse_if
-returns-4 c =
+returns_4 c =
     let told = c.before.before.before in
     let a = (start told.before).args in
     rw (total_before a.state.size a.planes a.scratch _, passed told) (search tests)
@@ -58,7 +58,7 @@ check_show_spec =
     (λ c. search rules)
     (λ c. search rules)
     returns
-    mul-places
-    returns-2
-    returns-3
-    returns-4)
+    mul_places
+    returns_2
+    returns_3
+    returns_4)

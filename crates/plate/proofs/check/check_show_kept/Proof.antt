@@ -27,25 +27,25 @@ returns c =
       c.in_default.is,
     )
 
-mul-places : tie.Need-overflow_mul-places
-mul-places c =
+mul_places : tie.Need-overflow_mul-places
+mul_places c =
     let law = lawful c.before in
     omega (arith, places_small _ _ law.width_top law.height_top)
 
-mul-if1 : tie.Need-overflow_mul-places-2
-mul-if1 c =
+mul_if1 : tie.Need-overflow_mul-places-2
+mul_if1 c =
     let law = lawful c.before in
     omega (arith, places_small _ _ law.width_top law.height_top)
 
-returns-2 : tie.Need-returns-then-sums-places
+returns_2 : tie.Need-returns-then-sums-places
 unfolding show_kept_check refuse_if
-returns-2 c =
+returns_2 c =
     let told = c.before.before in
     rw (sizes_pass (start told).args.state.size _ (lawful told)) (search tests)
 
-returns-3 : tie.Need-returns
+returns_3 : tie.Need-returns
 unfolding show_kept_check
-returns-3 c =
+returns_3 c =
     let told = c.before.before.before in
     rw (sizes_pass (start told).args.state.size _ (lawful told), length_pass _ _ _ c.before.if-sums-places.false)
     c.check_show.ensures
@@ -58,8 +58,8 @@ check_show_kept_spec =
     (λ c. search rules)
     (λ c. search rules)
     returns
-    mul-places
-    mul-if1
-    returns-2
+    mul_places
+    mul_if1
+    returns_2
     (λ c κs. search rules)
-    returns-3)
+    returns_3)

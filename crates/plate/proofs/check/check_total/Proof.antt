@@ -29,27 +29,27 @@ returns c =
     let sizes = c.before in
     rw (sizes_before sizes.before.args.size Accepted _, ← sizes.check_sizes-sizes.ensures, c.in_default.is)
 
-frame-of-requires : tie.Need-frame_of-frame-requires
-frame-of-requires c κs = lawful c
+frame_of_requires : tie.Need-frame_of-frame-requires
+frame_of_requires c κs = lawful c
 
-mul-if1 : tie.Need-overflow_mul-cells
-mul-if1 c = omega (arith, cells c, padded_small (start c).args.size (lawful c.before))
+mul_if1 : tie.Need-overflow_mul-cells
+mul_if1 c = omega (arith, cells c, padded_small (start c).args.size (lawful c.before))
 
-returns-2 : tie.Need-returns-then-planes-cells
+returns_2 : tie.Need-returns-then-planes-cells
 unfolding total_check refuse_if
-returns-2 c =
+returns_2 c =
     let framed = c.before in
     rw (sizes_pass (start framed).args.size _ (lawful framed.before), ← cells framed) (search tests)
 
-returns-3 : tie.Need-returns-then-scratch-cells
+returns_3 : tie.Need-returns-then-scratch-cells
 unfolding total_check refuse_if
-returns-3 c =
+returns_3 c =
     let framed = c.before.before in
     rw (sizes_pass (start framed).args.size _ (lawful framed.before), ← cells framed) (search tests)
 
-returns-4 : tie.Need-returns
+returns_4 : tie.Need-returns
 unfolding total_check refuse_if
-returns-4 c =
+returns_4 c =
     let framed = c.before.before in
     rw (sizes_pass (start framed).args.size _ (lawful framed.before), ← cells framed) (search tests)
 
@@ -61,9 +61,9 @@ check_total_spec =
     (λ c. search rules)
     (λ c. search rules)
     returns
-    frame-of-requires
-    mul-if1
-    returns-2
+    frame_of_requires
+    mul_if1
+    returns_2
     (λ c. search rules)
-    returns-3
-    returns-4)
+    returns_3
+    returns_4)

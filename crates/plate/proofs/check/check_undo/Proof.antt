@@ -10,18 +10,18 @@ returns : tie.Need-returns-in_default
 unfolding undo_check
 returns c = rw (plate_before, ← c.before.check_plate-plate.ensures, c.in_default.is)
 
-returns-2 : tie.Need-returns-then-count-eq0
+returns_2 : tie.Need-returns-then-count-eq0
 unfolding undo_check refuse_if
-returns-2 c =
+returns_2 c =
     let told = c.before in
     rw (plate_before, ← told.before.check_plate-plate.ensures, told.in-Accepted.is) (search tests)
 
-returns-3 : tie.Need-returns
+returns_3 : tie.Need-returns
 unfolding undo_check refuse_if
-returns-3 c =
+returns_3 c =
     let told = c.before in
     rw (plate_before, ← told.before.check_plate-plate.ensures, told.in-Accepted.is) (search tests)
 
 pub check_undo_spec : {M : Type 1} → statement M
 check_undo_spec =
-    tie.close (tie.spec (λ c κs. search rules) (λ c. search rules) (λ c. search rules) returns returns-2 returns-3)
+    tie.close (tie.spec (λ c κs. search rules) (λ c. search rules) (λ c. search rules) returns returns_2 returns_3)

@@ -12,20 +12,20 @@ start c = c.before.before.before.before
 abbrev moved : tie.After-pack → tie.After-exchange_marks
 moved c = c.before.before.before.before.before
 
-exchange-marks-requires : tie.Need-exchange_marks-requires
-exchange-marks-requires c κs = c.before.before.before.requires.0
+exchange_marks_requires : tie.Need-exchange_marks-requires
+exchange_marks_requires c κs = c.before.before.before.requires.0
 
-pack-requires : tie.Need-pack-requires
-pack-requires c κs = (start c.before.before.before.before).requires.0.change.new_fits.value_fits
+pack_requires : tie.Need-pack-requires
+pack_requires c κs = (start c.before.before.before.before).requires.0.change.new_fits.value_fits
 
-mul-pixels : tie.Need-offset_bounds-pixels-place
-mul-pixels c = let s = start (moved c) in omega (arith, s.requires.1, s.well_formed)
+mul_pixels : tie.Need-offset_bounds-pixels-place
+mul_pixels c = let s = start (moved c) in omega (arith, s.requires.1, s.well_formed)
 
-slice-write-pixels : tie.Need-bounds-pixels-place
-slice-write-pixels c = (start (moved c)).requires.1
+slice_write_pixels : tie.Need-bounds-pixels-place
+slice_write_pixels c = (start (moved c)).requires.1
 
-add-result : tie.Need-overflow_add-result
-add-result c =
+add_result : tie.Need-overflow_add-result
+add_result c =
     let change = (start (moved c.before.before)).args.change in
     omega (
       arith,
@@ -49,13 +49,13 @@ pub exchange_spec : {M : Type 1} → statement M
 exchange_spec =
     tie.close
     (tie.spec
-    exchange-marks-requires
-    pack-requires
-    mul-pixels
-    slice-write-pixels
+    exchange_marks_requires
+    pack_requires
+    mul_pixels
+    slice_write_pixels
     (λ c κs. search rules)
     (λ c κs. search rules)
-    add-result
+    add_result
     (λ c. search rules)
     (λ c. search rules)
     returns)

@@ -13,20 +13,20 @@ placed c =
     let s = c.before.before in
     rw c.frame_of-frame.ensures (record { framed = refl; column_in = s.requires.change.column_in; row_in = s.requires.change.row_in })
 
-frame-of-requires : tie.Need-frame_of-frame-requires
-frame-of-requires c κs = c.before.requires.change.lawful
+frame_of_requires : tie.Need-frame_of-frame-requires
+frame_of_requires c κs = c.before.requires.change.lawful
 
 -- what holds of either pixel is at hand for both calls: which of them a call is to have, only what is laid decides
-take-pixel-requires : tie.Need-take_pixel-requires
-take-pixel-requires c κs =
-    let new-share = c.before in
-    let old-share = new-share.before in
-    let framed = old-share.before.before.before in
+take_pixel_requires : tie.Need-take_pixel-requires
+take_pixel_requires c κs =
+    let new_share = c.before in
+    let old_share = new_share.before in
+    let framed = old_share.before.before.before in
     let s = framed.before.before in
     let old_fits = s.requires.change.old_fits.radius_fits in
     let new_fits = s.requires.change.new_fits.radius_fits in
-    let old_is = old-share.share_of-old_share.ensures in
-    let New-is = new-share.share_of-new_share.ensures in
+    let old_is = old_share.share_of-old_share.ensures in
+    let New-is = new_share.share_of-new_share.ensures in
     record {
       placed = placed framed;
       planes_are = rw framed.frame_of-frame.ensures s.requires.planes_are;
@@ -34,16 +34,16 @@ take-pixel-requires c κs =
       share_is = search rules;
     }
 
-lay-pixel-requires : tie.Need-lay_pixel-requires
-lay-pixel-requires c κs =
-    let new-share = c.before.before.before.before.before in
-    let old-share = new-share.before in
-    let framed = old-share.before.before.before in
+lay_pixel_requires : tie.Need-lay_pixel-requires
+lay_pixel_requires c κs =
+    let new_share = c.before.before.before.before.before in
+    let old_share = new_share.before in
+    let framed = old_share.before.before.before in
     let s = framed.before.before in
     let old_fits = s.requires.change.old_fits.radius_fits in
     let new_fits = s.requires.change.new_fits.radius_fits in
-    let old_is = old-share.share_of-old_share.ensures in
-    let New-is = new-share.share_of-new_share.ensures in
+    let old_is = old_share.share_of-old_share.ensures in
+    let New-is = new_share.share_of-new_share.ensures in
     record {
       placed = placed framed;
       planes_are = rw framed.frame_of-frame.ensures (search rules ∙ s.requires.planes_are);
@@ -64,10 +64,10 @@ pub exchange_marks_spec : {M : Type 1} → statement M
 exchange_marks_spec =
     tie.close
     (tie.spec
-    frame-of-requires
+    frame_of_requires
     (λ c κs. search rules)
     (λ c κs. search rules)
-    take-pixel-requires
-    lay-pixel-requires
+    take_pixel_requires
+    lay_pixel_requires
     (λ c. search rules)
     returns)

@@ -22,8 +22,8 @@ reads : (c : tie.After-read_layer)
     c.read_layer.result ≡ layer_read s.args.state s.args.lens s.args.shape (given s) (lengths_of (held s))
 reads c = c.read_layer.ensures (entry c).args.opacities.now refl
 
-refill-requires : tie.Need-refill-requires
-refill-requires c κs =
+refill_requires : tie.Need-refill-requires
+refill_requires c κs =
     let found = c.before.before.before in
     let read = found.before in
     layer_ready _ _ _ _ (held (entry read)) _ (sym found.in-ToFill.is ∙ reads read)
@@ -36,8 +36,8 @@ returns c =
     rw made.refill.ensures.0
     (layer-filled _ _ _ _ (held (entry read)) _ (sym found.in-ToFill.is ∙ reads read) _ _ _ made.refill.ensures.1)
 
-returns-2 : tie.Need-returns-in-NoFill
-returns-2 c =
+returns_2 : tie.Need-returns-in-NoFill
+returns_2 c =
     let found = c.before in
     let read = found.before in
     rw c.refused.ensures (layer-refused _ _ _ _ (held (entry read)) _ (sym found.in-NoFill.is ∙ reads read))
@@ -48,11 +48,11 @@ fill_spec =
     (tie.spec
     (λ c κs. search rules)
     (λ c. search rules)
-    refill-requires
+    refill_requires
     (λ c. search rules)
     (λ c κs. search rules)
     (λ c. search rules)
     (λ c. search rules)
     (λ c. search rules)
     returns
-    returns-2)
+    returns_2)

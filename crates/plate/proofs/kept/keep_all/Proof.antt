@@ -35,20 +35,20 @@ same_sums : (c : tie.After-struct_known-2-1)
 same_sums c =
     omega (arith, c.before.before.before.before.sums-1.given, (start (made (summed (kept c)))).requires.sums_are)
 
-light-channel-requires : tie.Need-light_channel-light-requires
-light-channel-requires c κs = c.before.before.before.before.before.before.requires.show.sums.lawful
+light_channel_requires : tie.Need-light_channel-light-requires
+light_channel_requires c κs = c.before.before.before.before.before.before.requires.show.sums.lawful
 
-add-t11 : tie.Need-overflow_add-image
-add-t11 c = omega (arith, (start c.before).requires.show.sums.lawful.reach_top_fact)
+add_t11 : tie.Need-overflow_add-image
+add_t11 c = omega (arith, (start c.before).requires.show.sums.lawful.reach_top_fact)
 
-sum-above-requires : tie.Need-sum_above-requires
-sum-above-requires c κs =
+sum_above_requires : tie.Need-sum_above-requires
+sum_above_requires c κs =
     let made = c.before.before in
     let high = ap (λ (p : Channel). p.high) made.light_channel-light.ensures in
     record { fits = fits made; low = omega (arith, high, (start made).requires.show) }
 
-keep-rows-requires : tie.Need-keep_rows-requires
-keep-rows-requires c κs =
+keep_rows_requires : tie.Need-keep_rows-requires
+keep_rows_requires c κs =
     let summed = c.before.before.before.before in
     let made = made summed in
     let columns = ap (λ (p : Channel). p.columns) made.light_channel-light.ensures in
@@ -61,13 +61,13 @@ keep-rows-requires c κs =
       sums_are = (start made).requires.sums_are;
     }
 
-mul-places : tie.Need-overflow_mul-places
-mul-places c =
+mul_places : tie.Need-overflow_mul-places
+mul_places c =
     let start = start (made (summed (kept c))) in
     omega (arith, start.requires.sums_are, start.well_formed)
 
-round-row-requires : tie.Need-round_row-requires
-round-row-requires c κs =
+round_row_requires : tie.Need-round_row-requires
+round_row_requires c κs =
     let known = c.before.before in
     let ready = (start (made (summed (kept known)))).requires.show in
     record {
@@ -98,12 +98,12 @@ pub keep_all_spec : {M : Type 1} → statement M
 keep_all_spec =
     tie.close
     (tie.spec
-    light-channel-requires
-    add-t11
-    sum-above-requires
-    keep-rows-requires
-    mul-places
-    round-row-requires
+    light_channel_requires
+    add_t11
+    sum_above_requires
+    keep_rows_requires
+    mul_places
+    round_row_requires
     (λ c κs. search rules)
     (λ c. search rules)
     (λ c. search rules)

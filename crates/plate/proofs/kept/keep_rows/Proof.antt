@@ -9,54 +9,54 @@ use Rattle.plate.proofs.Laws.Showing.Keeping.{KeepingAt, keeping_start, kept_nex
 use Rattle.plate.proofs.kept.keep_rows.Statement.{statement}
 use Rattle.plate.proofs.kept.keep_rows.Tie as tie
 
-abbrev invariant-loop : tie.invariant-loop-row
-invariant-loop sums₀ scratch₀ planes light first width height places light-end light-down matte-down row₀ sums scratch row =
+abbrev invariant_loop : tie.invariant-loop-row
+invariant_loop sums₀ scratch₀ planes light first width height places light-end light-down matte-down row₀ sums scratch row =
     (row ≤ height)
     × KeepingAt light (record { first = first; width = width; height = height }) planes scratch₀ scratch sums₀ sums row
 
-abbrev decreases-loop : tie.decreases-loop-row
-decreases-loop sums₀ scratch₀ planes light first width height places light-end light-down matte-down row₀ sums scratch row = height - row
+abbrev decreases_loop : tie.decreases-loop-row
+decreases_loop sums₀ scratch₀ planes light first width height places light-end light-down matte-down row₀ sums scratch row = height - row
 
-abbrev start : tie.After-matte_after-matte invariant-loop decreases-loop → tie.Start invariant-loop decreases-loop
+abbrev start : tie.After-matte_after-matte invariant_loop decreases_loop → tie.Start invariant_loop decreases_loop
 start c = c.before.before.before.before
 
 -- where matte's sums start
-sums-is : (c : tie.After-matte_after-matte invariant-loop decreases-loop) → c.matte_after-matte.result.sums ≡ sums_end (start c).args.light
-sums-is c = matte_sums _ _ c.matte_after-matte.ensures
+sums_is : (c : tie.After-matte_after-matte invariant_loop decreases_loop) → c.matte_after-matte.result.sums ≡ sums_end (start c).args.light
+sums_is c = matte_sums _ _ c.matte_after-matte.ensures
 
-abbrev made : tie.In-loop-row invariant-loop decreases-loop → tie.After-matte_after-matte invariant-loop decreases-loop
+abbrev made : tie.In-loop-row invariant_loop decreases_loop → tie.After-matte_after-matte invariant_loop decreases_loop
 made c = c.before.before.before
 
 -- a row of the image is in it
-place_in : (c : tie.In-loop-row invariant-loop decreases-loop)
+place_in : (c : tie.In-loop-row invariant_loop decreases_loop)
     → let image = (start (made c)).args.image in
     c.before.loop-row.row * image.width + image.width ≤ image.width * image.height
 place_in c = row_in c.before.loop-row.row _ _ c.loop-row-test.true
 
 -- and far below 2 ^ 64
-below : (c : tie.In-loop-row invariant-loop decreases-loop) → (start (made c)).args.image.first + (c.before.loop-row.row + 1) < 2 ^ 64
+below : (c : tie.In-loop-row invariant_loop decreases_loop) → (start (made c)).args.image.first + (c.before.loop-row.row + 1) < 2 ^ 64
 below c = omega (arith, c.loop-row-test.true, (start (made c)).requires.rows_in, (start (made c)).requires.fits, (start (made c)).well_formed)
 
-mul-places : tie.Need-overflow_mul-places invariant-loop decreases-loop
-mul-places c = omega (arith, (start c).requires.sums_are, (start c).well_formed)
+mul_places : tie.Need-overflow_mul-places invariant_loop decreases_loop
+mul_places c = omega (arith, (start c).requires.sums_are, (start c).well_formed)
 
-sub-light-down : tie.Need-overflow_sub-light_down invariant-loop decreases-loop
-sub-light-down c = omega (arith, sums-is c, (start c).requires.columns_are)
+sub_light_down : tie.Need-overflow_sub-light_down invariant_loop decreases_loop
+sub_light_down c = omega (arith, sums_is c, (start c).requires.columns_are)
 
-sub-matte-down : tie.Need-overflow_sub-matte_down invariant-loop decreases-loop
-sub-matte-down c = omega (arith, sums-is c.before)
+sub_matte_down : tie.Need-overflow_sub-matte_down invariant_loop decreases_loop
+sub_matte_down c = omega (arith, sums_is c.before)
 
-add-matte-down : tie.Need-overflow_add-matte_down invariant-loop decreases-loop
-add-matte-down c = omega (arith, sums-is c.before, (start c.before).requires, (start c.before).well_formed)
+add_matte_down : tie.Need-overflow_add-matte_down invariant_loop decreases_loop
+add_matte_down c = omega (arith, sums_is c.before, (start c.before).requires, (start c.before).well_formed)
 
-loop-holds : tie.Need-loop-row-init invariant-loop decreases-loop
-loop-holds c = (search rules, keeping_start _ _ _ _ _ (start c.before).requires.to)
+loop_holds : tie.Need-loop-row-init invariant_loop decreases_loop
+loop_holds c = (search rules, keeping_start _ _ _ _ _ (start c.before).requires.to)
 
-add-sum-both : tie.Need-overflow_add-first invariant-loop decreases-loop
-add-sum-both c = omega (arith, below c.before)
+add_sum_both : tie.Need-overflow_add-first invariant_loop decreases_loop
+add_sum_both c = omega (arith, below c.before)
 
-sum-both-requires : tie.Need-sum_both-requires invariant-loop decreases-loop
-sum-both-requires c κs =
+sum_both_requires : tie.Need-sum_both-requires invariant_loop decreases_loop
+sum_both_requires c κs =
     let test = c.before in
     let pre = (start (made test)).requires in
     let sums = test.before.loop-row.invariant.1.both in
@@ -66,24 +66,24 @@ sum-both-requires c κs =
       to = sums.to;
     }
 
-mul-place : tie.Need-overflow_mul-place invariant-loop decreases-loop
-mul-place c =
+mul_place : tie.Need-overflow_mul-place invariant_loop decreases_loop
+mul_place c =
     let test = c.before.before.before.before in
     omega (arith, place_in test, (start (made test)).requires.sums_are, (start (made test)).well_formed)
 
-add-keep-row : tie.Need-overflow_add-places invariant-loop decreases-loop
-add-keep-row c =
+add_keep_row : tie.Need-overflow_add-places invariant_loop decreases_loop
+add_keep_row c =
     let test = c.before.before.before.before.before in
     omega (arith, place_in test, (start (made test)).requires.sums_are, (start (made test)).well_formed)
 
-keep-row-requires : tie.Need-keep_row-requires invariant-loop decreases-loop
-keep-row-requires c κs =
+keep_row_requires : tie.Need-keep_row-requires invariant_loop decreases_loop
+keep_row_requires c κs =
     let summed = c.before.before.before in
     let test = summed.before.before in
     let pre = (start (made test)).requires in
     let now = test.before.loop-row.invariant.1 in
     let place = place_in test in
-    let from = sums-is (made test) in
+    let from = sums_is (made test) in
     let same = summed.sum_both.ensures.same in
     record {
       light_in = omega (arith, from, same, now.both.same, pre.fits, pre.columns_are);
@@ -92,18 +92,18 @@ keep-row-requires c κs =
       second_in = omega (arith, place, now.same, pre.sums_are);
     }
 
-add_row : tie.Need-overflow_step-row invariant-loop decreases-loop
+add_row : tie.Need-overflow_step-row invariant_loop decreases_loop
 add_row c =
     let test = c.before.before.before.before.before.before.before.before in
     omega (arith, below test)
 
-loop-less : tie.Need-loop-row-smaller invariant-loop decreases-loop
-loop-less c =
+loop_less : tie.Need-loop-row-smaller invariant_loop decreases_loop
+loop_less c =
     let test = c.before.before.before.before.before.before.before.before in
     omega (arith, test.loop-row-test.true)
 
-loop-again : tie.Need-loop-row-preserved invariant-loop decreases-loop
-loop-again c =
+loop_again : tie.Need-loop-row-preserved invariant_loop decreases_loop
+loop_again c =
     let kept = c.before.before in
     let summed = kept.before.before.before.before in
     let test = summed.before.before in
@@ -111,7 +111,7 @@ loop-again c =
     let iteration = test.before.loop-row in
     let now = iteration.invariant.1 in
     let sums = summed.sum_both.ensures in
-    let from = sums-is (made test) in
+    let from = sums_is (made test) in
     let first = (start (made test)).args.image.first in
     let e : first + (iteration.row + 1) ≡ first + iteration.row + 1 = omega arith in (
       omega (arith, test.loop-row-test.true),
@@ -124,7 +124,7 @@ loop-again c =
       },
     )
 
-returns : tie.Need-returns invariant-loop decreases-loop
+returns : tie.Need-returns invariant_loop decreases_loop
 returns c =
     let iteration = c.before.loop-row in
     let e : iteration.row ≡ (start c.before.before.before).args.image.height = omega arith in
@@ -134,22 +134,22 @@ pub keep_rows_spec : {M : Type 1} → statement M
 keep_rows_spec =
     tie.close
     (tie.spec
-    invariant-loop
-    decreases-loop
+    invariant_loop
+    decreases_loop
     (λ c κs. search rules)
-    mul-places
-    sub-light-down
-    sub-matte-down
-    add-matte-down
-    loop-holds
-    add-sum-both
-    sum-both-requires
-    mul-place
-    add-keep-row
-    keep-row-requires
+    mul_places
+    sub_light_down
+    sub_matte_down
+    add_matte_down
+    loop_holds
+    add_sum_both
+    sum_both_requires
+    mul_place
+    add_keep_row
+    keep_row_requires
     add_row
-    loop-less
-    loop-again
+    loop_less
+    loop_again
     (λ c. search rules)
     (λ c. search rules)
     returns)

@@ -43,33 +43,33 @@ returns c =
     let found = c.before in
     rw (c.refused.ensures, ← found.before.check_kept-checked.ensures, found.in-Refused.is)
 
-mend-requires : tie.Need-mend-requires
-mend-requires c κs =
+mend_requires : tie.Need-mend-requires
+mend_requires c κs =
     let change = c.before.before.before in
     let s = start change.before in
     mend_ready _ _ _ (kept s)
     (put_ready s.args.state (asked s) (held s) (omega (arith, s.well_formed)) _ (reads change)).changeable
     (checked change.before)
 
-log-and-exchange-requires : tie.Need-log_and_exchange-requires
-log-and-exchange-requires c κs =
+log_and_exchange_requires : tie.Need-log_and_exchange-requires
+log_and_exchange_requires c κs =
     let mended = c.before.before.before.before.before.before.before in
     let change = mended.before.before.before.before.before.before in
     let s = start change.before in
     put_ready s.args.state (asked s) (held s) (omega (arith, s.well_formed)) _ (reads change)
 
-returns-2 : tie.Need-returns-in-ToChange
+returns_2 : tie.Need-returns-in-ToChange
 unfolding put_kept_call put_kept_by kept_read canvas_by
-returns-2 c =
+returns_2 c =
     let made = c.before.before.before.before.before.before in
     let mended = made.before.before.before.before.before.before.before.before.before.before in
     let change = mended.before.before.before.before in
     rw (checked change.before, reads change)
     (λ j. record { call = made.log_and_exchange.ensures j; canvas = mended.mend.ensures j })
 
-returns-3 : tie.Need-returns-in-NoChange
+returns_3 : tie.Need-returns-in-NoChange
 unfolding put_kept_call put_kept_by kept_read canvas_by put_by
-returns-3 c =
+returns_3 c =
     let told = c.before in
     let read = told.before in
     rw (
@@ -92,8 +92,8 @@ put_kept_spec =
     (λ c κs. search rules)
     (λ c κs. search rules)
     (λ c. search rules)
-    mend-requires
-    log-and-exchange-requires
+    mend_requires
+    log_and_exchange_requires
     (λ c. search rules)
     (λ c κs. search rules)
     (λ c. search rules)
@@ -102,6 +102,6 @@ put_kept_spec =
     (λ c. search rules)
     (λ c. search rules)
     (λ c. search rules)
-    returns-2
+    returns_2
     (λ c. search rules)
-    returns-3)
+    returns_3)

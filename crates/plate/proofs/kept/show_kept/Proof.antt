@@ -24,12 +24,12 @@ returns : tie.Need-returns-in_default
 unfolding show_kept_call show_kept_by show_by sums_by
 returns c = let told = c.in_default.is in rw (told, sym c.before.check_show_kept-outcome.ensures ∙ told)
 
-keep-all-requires : tie.Need-keep_all-requires
-keep-all-requires c κs = show_kept_ready _ _ _ _ _ _ (passed c.before.before.before.before)
+keep_all_requires : tie.Need-keep_all-requires
+keep_all_requires c κs = show_kept_ready _ _ _ _ _ _ (passed c.before.before.before.before)
 
-returns-2 : tie.Need-returns
+returns_2 : tie.Need-returns
 unfolding show_kept_call
-returns-2 c =
+returns_2 c =
     let done = c.before.before.before.before.before.before.before.before in
     done.keep_all.ensures ∙ rw (passed done.before.before.before.before.before)
 
@@ -41,9 +41,9 @@ show_kept_spec =
     (λ c. search rules)
     (λ c. search rules)
     returns
-    keep-all-requires
+    keep_all_requires
     (λ c. search rules)
     (λ c. search rules)
     (λ c. search rules)
     (λ c. search rules)
-    returns-2)
+    returns_2)

@@ -37,32 +37,32 @@ returns c =
     let found = c.before in
     rw (c.refused.ensures, ← found.before.check_kept-checked.ensures, found.in-Refused.is)
 
-mend-requires : tie.Need-mend-requires
-mend-requires c κs =
+mend_requires : tie.Need-mend-requires
+mend_requires c κs =
     let change = c.before.before.before in
     let s = start change.before in
     mend_ready _ _ _ (kept s) (undo_ready s.args.state (held s) _ (reads change)).changeable
     (checked change.before)
 
-unlog-and-exchange-requires : tie.Need-unlog_and_exchange-requires
-unlog-and-exchange-requires c κs =
+unlog_and_exchange_requires : tie.Need-unlog_and_exchange-requires
+unlog_and_exchange_requires c κs =
     let mended = c.before.before.before.before.before.before.before in
     let change = mended.before.before.before.before.before.before in
     let s = start change.before in
     undo_ready s.args.state (held s) _ (reads change)
 
-returns-2 : tie.Need-returns-in-ToChange
+returns_2 : tie.Need-returns-in-ToChange
 unfolding undo_kept_call undo_kept_by kept_read canvas_by
-returns-2 c =
+returns_2 c =
     let made = c.before.before.before.before.before.before in
     let mended = made.before.before.before.before.before.before.before.before.before.before in
     let change = mended.before.before.before.before in
     rw (checked change.before, reads change)
     (λ j. record { call = made.unlog_and_exchange.ensures j; canvas = mended.mend.ensures j })
 
-returns-3 : tie.Need-returns-in-NoChange
+returns_3 : tie.Need-returns-in-NoChange
 unfolding undo_kept_call undo_kept_by kept_read canvas_by undo_by
-returns-3 c =
+returns_3 c =
     let told = c.before in
     rw (c.refused-in-NoChange.ensures, checked told.before, ← told.before.read_undo.ensures, told.in-NoChange.is)
 
@@ -77,8 +77,8 @@ undo_kept_spec =
     (λ c. search rules)
     (λ c κs. search rules)
     (λ c. search rules)
-    mend-requires
-    unlog-and-exchange-requires
+    mend_requires
+    unlog_and_exchange_requires
     (λ c. search rules)
     (λ c κs. search rules)
     (λ c. search rules)
@@ -87,7 +87,7 @@ undo_kept_spec =
     (λ c. search rules)
     (λ c. search rules)
     (λ c. search rules)
-    returns-2
+    returns_2
     (λ c. search rules)
     (λ c. search rules)
-    returns-3)
+    returns_3)

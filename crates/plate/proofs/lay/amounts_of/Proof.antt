@@ -8,11 +8,11 @@ use Rattle.plate.proofs.lay.amounts_of.Tie as tie
 product : (c : tie.Start) → c.args.p.opacity * c.args.part ≤ 255 * 4294967295
 product c = product_le c.args.p.opacity c.args.part 255 4294967295 (omega (arith, c.well_formed)) (omega (arith, c.well_formed))
 
-mul-matte : tie.Need-overflow_mul-matte
-mul-matte c = omega (arith, product c.before)
+mul_matte : tie.Need-overflow_mul-matte
+mul_matte c = omega (arith, product c.before)
 
-mul-t5 : tie.Need-overflow_mul-result
-mul-t5 c =
+mul_t5 : tie.Need-overflow_mul-result
+mul_t5 c =
     let s = c.before.before in
     let p = s.args.p in
     omega (
@@ -21,4 +21,4 @@ mul-t5 c =
     )
 
 pub amounts_of_spec : {M : Type 1} → statement M
-amounts_of_spec = tie.close (tie.spec (λ c. search rules) mul-matte (λ c. search rules) mul-t5 (λ c. search rules))
+amounts_of_spec = tie.close (tie.spec (λ c. search rules) mul_matte (λ c. search rules) mul_t5 (λ c. search rules))

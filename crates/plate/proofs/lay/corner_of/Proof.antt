@@ -22,18 +22,18 @@ sides s =
     let tall : f.high ≡ high f.size = ap (λ (g : Frame). g.high) placed.framed in
     (omega (arith, placed.column_in, s.well_formed), omega (arith, placed.row_in, s.well_formed))
 
-add-result : tie.Need-overflow_add-result
-add-result c = omega (arith, sides c.before)
+add_result : tie.Need-overflow_add-result
+add_result c = omega (arith, sides c.before)
 
-mul-result : tie.Need-overflow_mul-result
-mul-result c = omega (arith, corner c.before.before)
+mul_result : tie.Need-overflow_mul-result
+mul_result c = omega (arith, corner c.before.before)
 
-add-result-2 : tie.Need-overflow_add-result-2
-add-result-2 c = omega (arith, sides c.before.before)
+add_result_2 : tie.Need-overflow_add-result-2
+add_result_2 c = omega (arith, sides c.before.before)
 
-add-result-3 : tie.Need-overflow_add-result-3
-add-result-3 c = omega (arith, corner c.before.before)
+add_result_3 : tie.Need-overflow_add-result-3
+add_result_3 c = omega (arith, corner c.before.before)
 
 pub corner_of_spec : {M : Type 1} → statement M
 corner_of_spec =
-    tie.close (tie.spec (λ c. search rules) add-result mul-result add-result-2 add-result-3 (λ c. search rules))
+    tie.close (tie.spec (λ c. search rules) add_result mul_result add_result_2 add_result_3 (λ c. search rules))

@@ -11,40 +11,40 @@ returns c =
     let s = c.before in
     rw c.if-i-eq0.true (times-one s.args.w (omega (arith, s.well_formed)) (omega (arith, s.well_formed)))
 
-returns-2 : tie.Need-returns-then-i-eq2
+returns_2 : tie.Need-returns-then-i-eq2
 unfolding sign choose minus
-returns-2 c =
+returns_2 c =
     let s = c.before.before.before in
     rw (c.before.if-boxes-eq2.true, c.if-i-eq2.true) (times-one s.args.w (omega (arith, s.well_formed)) (omega (arith, s.well_formed)))
 
-returns-3 : tie.Need-returns-then-boxes-eq2
+returns_3 : tie.Need-returns-then-boxes-eq2
 unfolding sign choose minus
-returns-3 c =
+returns_3 c =
     let else = c.before.before in
     let a = else.before.before.before.args in
     let one : a.i ≡ 1 = omega arith in
     rw (else.before.if-boxes-eq2.true, one)
     (c.opposite.ensures ∙ times-times a.w _ 2 (minus 1) c.before.twice.ensures)
 
-returns-4 : tie.Need-returns-then-i-eq3
+returns_4 : tie.Need-returns-then-i-eq3
 unfolding sign choose minus
-returns-4 c =
+returns_4 c =
     let then = c.before in
     let a = then.before.before.before.args in
     let three : a.boxes ≡ 3 = omega arith in
     rw (three, then.if-i-eq3.true) c.opposite-then-i-eq3.ensures
 
-returns-5 : tie.Need-returns-then-i-eq2-2
+returns_5 : tie.Need-returns-then-i-eq2-2
 unfolding sign choose minus
-returns-5 c =
+returns_5 c =
     let then = c.before in
     let a = then.before.before.before.before.args in
     let three : a.boxes ≡ 3 = omega arith in
     rw (three, then.if-i-eq2-2.true) c.thrice.ensures
 
-returns-6 : tie.Need-returns
+returns_6 : tie.Need-returns
 unfolding sign choose minus
-returns-6 c =
+returns_6 c =
     let a = c.before.before.before.before.before.before.args in
     let three : a.boxes ≡ 3 = omega arith in
     let one : a.i ≡ 1 = omega arith in
@@ -55,14 +55,14 @@ factored_spec =
     tie.close
     (tie.spec
     returns
-    returns-2
+    returns_2
     (λ c κs. search rules)
     (λ c κs. search rules)
-    returns-3
+    returns_3
     (λ c κs. search rules)
-    returns-4
+    returns_4
     (λ c κs. search rules)
-    returns-5
+    returns_5
     (λ c κs. search rules)
     (λ c κs. search rules)
-    returns-6)
+    returns_6)

@@ -6,17 +6,17 @@ use Rattle.plate.proofs.Laws.Laying.Amounts.{times-one, drawn_append, box_column
 use Rattle.plate.proofs.lay.lay_box.Statement.{statement}
 use Rattle.plate.proofs.lay.lay_box.Tie as tie
 
-add-far : tie.Need-overflow_add-far
+add_far : tie.Need-overflow_add-far
 unfolding AllIn box_grid marks_to
-add-far c = omega arith
+add_far c = omega arith
 
-lay-piece-requires : tie.Need-lay_piece-requires
+lay_piece_requires : tie.Need-lay_piece-requires
 unfolding AllIn box_grid marks_to
-lay-piece-requires c κs = search rules
+lay_piece_requires c κs = search rules
 
-lay-piece-requires-2 : tie.Need-lay_piece-requires-2
+lay_piece_requires_2 : tie.Need-lay_piece-requires-2
 unfolding AllIn box_grid marks_to
-lay-piece-requires-2 c κs = search rules
+lay_piece_requires_2 c κs = search rules
 
 returns : tie.Need-returns
 returns c =
@@ -35,8 +35,8 @@ lay_box_spec =
     tie.close
     (tie.spec
     (λ c κs. search rules)
-    add-far
-    lay-piece-requires
-    lay-piece-requires-2
+    add_far
+    lay_piece_requires
+    lay_piece_requires_2
     (λ c. search rules)
     returns)

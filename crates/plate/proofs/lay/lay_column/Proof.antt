@@ -8,21 +8,21 @@ use Rattle.plate.proofs.Laws.Laying.Amounts.{column_more, mark_in}
 use Rattle.plate.proofs.lay.lay_column.Statement.{statement}
 use Rattle.plate.proofs.lay.lay_column.Tie as tie
 
-abbrev invariant-loop : tie.invariant-loop-j
-invariant-loop planes₀ g b x w j₀ j-end planes j =
+abbrev invariant_loop : tie.invariant-loop-j
+invariant_loop planes₀ g b x w j₀ j-end planes j =
     (j ≤ j-end) × (length planes ≡ length planes₀)
     × ((v : Amounts) (c : ℕ) → w ≡ times v c
     → planes ≡ lay_drawn g v planes₀ (grid_column b.plane b.count b.side x c j))
 
-abbrev decreases-loop : tie.decreases-loop-j
-decreases-loop planes₀ g b x w j₀ j-end planes j = j-end - j
+abbrev decreases_loop : tie.decreases-loop-j
+decreases_loop planes₀ g b x w j₀ j-end planes j = j-end - j
 
 -- where the loop begins
-abbrev start : tie.At-loop-j invariant-loop decreases-loop → tie.Start invariant-loop decreases-loop
+abbrev start : tie.At-loop-j invariant_loop decreases_loop → tie.Start invariant_loop decreases_loop
 start c = c.before.before.before
 
 -- no step along the column wraps
-steps : (c : tie.In-loop-j invariant-loop decreases-loop)
+steps : (c : tie.In-loop-j invariant_loop decreases_loop)
     → let a = (start c.before).args in
     (c.before.loop-j.j * a.b.side ≤ a.b.count * a.b.side) × (margin + a.b.count * a.b.side < length a.planes.now)
 steps c =
@@ -31,27 +31,27 @@ steps c =
     let in_count : c.before.loop-j.j ≤ b.count = omega (arith, c.loop-j-test.true) in
     (product_le c.before.loop-j.j b.side b.count b.side in_count (omega arith), s.requires.last_in)
 
-add-j-end : tie.Need-overflow_add-j-end invariant-loop decreases-loop
-add-j-end c = omega (arith, c.before.before.requires.three_at_most)
+add_j_end : tie.Need-overflow_add-j-end invariant_loop decreases_loop
+add_j_end c = omega (arith, c.before.before.requires.three_at_most)
 
-loop-holds : tie.Need-loop-j-init invariant-loop decreases-loop
+loop_holds : tie.Need-loop-j-init invariant_loop decreases_loop
 unfolding grid_column marks_to lay_drawn
-loop-holds c = (search rules, refl, λ v k e. refl)
+loop_holds c = (search rules, refl, λ v k e. refl)
 
-mul-lay-mark : tie.Need-overflow_mul-j invariant-loop decreases-loop
-mul-lay-mark c = omega (arith, steps c.before.before)
+mul_lay_mark : tie.Need-overflow_mul-j invariant_loop decreases_loop
+mul_lay_mark c = omega (arith, steps c.before.before)
 
-add-lay-mark : tie.Need-overflow_add-j invariant-loop decreases-loop
-add-lay-mark c = omega (arith, steps c.before.before)
+add_lay_mark : tie.Need-overflow_add-j invariant_loop decreases_loop
+add_lay_mark c = omega (arith, steps c.before.before)
 
-factored-requires : tie.Need-factored-requires invariant-loop decreases-loop
-factored-requires c κs =
+factored_requires : tie.Need-factored-requires invariant_loop decreases_loop
+factored_requires c κs =
     let iteration = c.before.before in
     let h = (start iteration.before).requires in
     (h.two_at_least, h.three_at_most, omega (arith, iteration.loop-j-test.true))
 
-lay-mark-requires : tie.Need-lay_mark-requires invariant-loop decreases-loop
-lay-mark-requires c κs =
+lay_mark_requires : tie.Need-lay_mark-requires invariant_loop decreases_loop
+lay_mark_requires c κs =
     let iteration = c.before.before.before in
     let s = start iteration.before in
     let a = s.args in (
@@ -61,8 +61,8 @@ lay-mark-requires c κs =
           s.requires.marks_fit.inside,
     )
 
-loop-again : tie.Need-loop-j-preserved invariant-loop decreases-loop
-loop-again c =
+loop_again : tie.Need-loop-j-preserved invariant_loop decreases_loop
+loop_again c =
     let laid = c.before.before in
     let iteration = laid.before.before.before.before in
     let s = start iteration.before in
@@ -75,7 +75,7 @@ loop-again c =
           laid.before.factored.ensures),
     )
 
-returns : tie.Need-returns invariant-loop decreases-loop
+returns : tie.Need-returns invariant_loop decreases_loop
 returns c =
     let iteration = c.before.loop-j in
     let last : iteration.j ≡ suc (start c.before).args.b.count = omega arith in
@@ -85,16 +85,16 @@ pub lay_column_spec : {M : Type 1} → statement M
 lay_column_spec =
     tie.close
     (tie.spec
-    invariant-loop
-    decreases-loop
-    add-j-end
-    loop-holds
-    mul-lay-mark
-    add-lay-mark
-    factored-requires
-    lay-mark-requires
+    invariant_loop
+    decreases_loop
+    add_j_end
+    loop_holds
+    mul_lay_mark
+    add_lay_mark
+    factored_requires
+    lay_mark_requires
     (λ c. search rules)
     (λ c. search rules)
-    loop-again
+    loop_again
     (λ c. search rules)
     returns)

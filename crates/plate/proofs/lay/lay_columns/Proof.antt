@@ -9,19 +9,19 @@ use Rattle.plate.proofs.Laws.Laying.Amounts.{grid_to, columns_in, grid_more}
 use Rattle.plate.proofs.lay.lay_columns.Statement.{statement}
 use Rattle.plate.proofs.lay.lay_columns.Tie as tie
 
-abbrev invariant-loop : tie.invariant-loop-i
-invariant-loop planes₀ g b w i₀ i-end planes i =
+abbrev invariant_loop : tie.invariant-loop-i
+invariant_loop planes₀ g b w i₀ i-end planes i =
     (i ≤ i-end) × (length planes ≡ length planes₀) × (planes ≡ lay_drawn g w planes₀ (grid_to b i))
 
-abbrev decreases-loop : tie.decreases-loop-i
-decreases-loop planes₀ g b w i₀ i-end planes i = i-end - i
+abbrev decreases_loop : tie.decreases-loop-i
+decreases_loop planes₀ g b w i₀ i-end planes i = i-end - i
 
 -- where the loop begins
-abbrev start : tie.At-loop-i invariant-loop decreases-loop → tie.Start invariant-loop decreases-loop
+abbrev start : tie.At-loop-i invariant_loop decreases_loop → tie.Start invariant_loop decreases_loop
 start c = c.before.before.before
 
 -- the column that an iteration lays is inside
-inside : (c : tie.In-loop-i invariant-loop decreases-loop)
+inside : (c : tie.In-loop-i invariant_loop decreases_loop)
     → let a = (start c.before).args in
     AllIn a.g (column_marks a.b (margin + c.before.loop-i.i * a.b.side) 1)
     × (margin + a.b.count * a.b.side < planes_each * a.g.padded)
@@ -33,7 +33,7 @@ inside c =
     s.requires.0.inside
 
 -- no step along the grid wraps
-steps : (c : tie.In-loop-i invariant-loop decreases-loop)
+steps : (c : tie.In-loop-i invariant_loop decreases_loop)
     → let a = (start c.before).args in
     (c.before.loop-i.i * a.b.side ≤ a.b.count * a.b.side) × (margin + a.b.count * a.b.side < length a.planes.now)
 steps c =
@@ -44,27 +44,27 @@ steps c =
       omega (arith, (inside c).1, s.requires.0.planes_are),
     )
 
-add-i-end : tie.Need-overflow_add-i-end invariant-loop decreases-loop
-add-i-end c = omega (arith, c.before.before.requires.2)
+add_i_end : tie.Need-overflow_add-i-end invariant_loop decreases_loop
+add_i_end c = omega (arith, c.before.before.requires.2)
 
-loop-holds : tie.Need-loop-i-init invariant-loop decreases-loop
+loop_holds : tie.Need-loop-i-init invariant_loop decreases_loop
 unfolding grid_to marks_to lay_drawn
-loop-holds c = (search rules, refl, refl)
+loop_holds c = (search rules, refl, refl)
 
-mul-lay-column : tie.Need-overflow_mul-i invariant-loop decreases-loop
-mul-lay-column c = omega (arith, steps c.before.before)
+mul_lay_column : tie.Need-overflow_mul-i invariant_loop decreases_loop
+mul_lay_column c = omega (arith, steps c.before.before)
 
-add-lay-column : tie.Need-overflow_add-i invariant-loop decreases-loop
-add-lay-column c = omega (arith, steps c.before.before)
+add_lay_column : tie.Need-overflow_add-i invariant_loop decreases_loop
+add_lay_column c = omega (arith, steps c.before.before)
 
-factored-requires : tie.Need-factored-requires invariant-loop decreases-loop
-factored-requires c κs =
+factored_requires : tie.Need-factored-requires invariant_loop decreases_loop
+factored_requires c κs =
     let iteration = c.before.before in
     let h = (start iteration.before).requires in
     (h.1, h.2, omega (arith, iteration.loop-i-test.true))
 
-lay-column-requires : tie.Need-lay_column-requires invariant-loop decreases-loop
-lay-column-requires c κs =
+lay_column_requires : tie.Need-lay_column-requires invariant_loop decreases_loop
+lay_column_requires c κs =
     let iteration = c.before.before.before in
     let s = start iteration.before in
     let a = s.args in
@@ -77,8 +77,8 @@ lay-column-requires c κs =
       three_at_most = s.requires.2;
     }
 
-loop-again : tie.Need-loop-i-preserved invariant-loop decreases-loop
-loop-again c =
+loop_again : tie.Need-loop-i-preserved invariant_loop decreases_loop
+loop_again c =
     let laid = c.before.before in
     let iteration = laid.before.before.before.before in
     let s = start iteration.before in
@@ -95,7 +95,7 @@ loop-again c =
           ∙ grid_more a.g a.w a.planes.now a.b i),
     )
 
-returns : tie.Need-returns invariant-loop decreases-loop
+returns : tie.Need-returns invariant_loop decreases_loop
 unfolding drawn_marks box_grid grid_to
 returns c =
     let iteration = c.before.loop-i in
@@ -106,16 +106,16 @@ pub lay_columns_spec : {M : Type 1} → statement M
 lay_columns_spec =
     tie.close
     (tie.spec
-    invariant-loop
-    decreases-loop
-    add-i-end
-    loop-holds
-    mul-lay-column
-    add-lay-column
-    factored-requires
-    lay-column-requires
+    invariant_loop
+    decreases_loop
+    add_i_end
+    loop_holds
+    mul_lay_column
+    add_lay_column
+    factored_requires
+    lay_column_requires
     (λ c. search rules)
     (λ c. search rules)
-    loop-again
+    loop_again
     (λ c. search rules)
     returns)

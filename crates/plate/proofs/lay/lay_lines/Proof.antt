@@ -19,44 +19,44 @@ bottom_in : (s : tie.Start) → let o = s.args.o in LineIn s.args.g o.falling o.
 bottom_in s = line_in _ _ _ _ _ (lines_in _ _ s.requires.inside).1
 
 -- piece after piece
-abbrev top-level : tie.After-lay_piece-2 → tie.After-lay_level
-top-level c = c.before.before.before.before
+abbrev top_level : tie.After-lay_piece-2 → tie.After-lay_level
+top_level c = c.before.before.before.before
 
-abbrev top-first : tie.After-lay_level → tie.After-lay_piece
-top-first c = c.before.before.before.before
+abbrev top_first : tie.After-lay_level → tie.After-lay_piece
+top_first c = c.before.before.before.before
 
-abbrev bottom-first : tie.After-lay_level-2 → tie.After-lay_piece-3
-bottom-first c = c.before.before.before.before
+abbrev bottom_first : tie.After-lay_level-2 → tie.After-lay_piece-3
+bottom_first c = c.before.before.before.before
 
-abbrev top-last : tie.After-lay_piece-3 → tie.After-lay_piece-2
-top-last c = c.before.before.before.before
+abbrev top_last : tie.After-lay_piece-3 → tie.After-lay_piece-2
+top_last c = c.before.before.before.before
 
-lay-piece-requires : tie.Need-lay_piece-requires
-lay-piece-requires c κs =
+lay_piece_requires : tie.Need-lay_piece-requires
+lay_piece_requires c κs =
     let s = c.before.before.before.before.before in
     record { planes_are = s.requires.planes_are; inside = (top_in s).first }
 
-lay-level-requires : tie.Need-lay_level-requires
-lay-level-requires c κs =
+lay_level_requires : tie.Need-lay_level-requires
+lay_level_requires c κs =
     let s = start c.before.before.before in
     record { planes_are = omega (arith, s.requires.planes_are); inside = (top_in s).middle }
 
-lay-piece-requires-2 : tie.Need-lay_piece-requires-2
-lay-piece-requires-2 c κs =
-    let s = start (top-first c.before.before.before) in
+lay_piece_requires_2 : tie.Need-lay_piece-requires-2
+lay_piece_requires_2 c κs =
+    let s = start (top_first c.before.before.before) in
     record { planes_are = omega (arith, s.requires.planes_are); inside = (top_in s).last }
 
-lay-piece-requires-3 : tie.Need-lay_piece-requires-3
-lay-piece-requires-3 c κs =
-    let s = start (top-first (top-level c.before.before.before)) in
+lay_piece_requires_3 : tie.Need-lay_piece-requires-3
+lay_piece_requires_3 c κs =
+    let s = start (top_first (top_level c.before.before.before)) in
     record { planes_are = omega (arith, s.requires.planes_are); inside = (bottom_in s).first }
 
-lay-level-requires-2 : tie.Need-lay_level-requires-2
-lay-level-requires-2 c κs =
+lay_level_requires_2 : tie.Need-lay_level-requires-2
+lay_level_requires_2 c κs =
     let piece3 = c.before.before.before in
-    let piece2 = top-last piece3 in
-    let level1 = top-level piece2 in
-    let piece1 = top-first level1 in
+    let piece2 = top_last piece3 in
+    let level1 = top_level piece2 in
+    let piece1 = top_first level1 in
     let s = start piece1 in
     record {
       planes_are = omega (
@@ -70,13 +70,13 @@ lay-level-requires-2 c κs =
       inside = (bottom_in s).middle;
     }
 
-lay-piece-requires-4 : tie.Need-lay_piece-requires-4
-lay-piece-requires-4 c κs =
+lay_piece_requires_4 : tie.Need-lay_piece-requires-4
+lay_piece_requires_4 c κs =
     let level2 = c.before.before.before in
-    let piece3 = bottom-first level2 in
-    let piece2 = top-last piece3 in
-    let level1 = top-level piece2 in
-    let piece1 = top-first level1 in
+    let piece3 = bottom_first level2 in
+    let piece2 = top_last piece3 in
+    let level1 = top_level piece2 in
+    let piece1 = top_first level1 in
     let s = start piece1 in
     record {
       planes_are = omega (
@@ -96,10 +96,10 @@ unfolding drawn_marks line_pieces level_marks
 returns c =
     let last = c.before.before in
     let level2 = last.before.before.before.before in
-    let piece3 = bottom-first level2 in
-    let piece2 = top-last piece3 in
-    let level1 = top-level piece2 in
-    let piece1 = top-first level1 in
+    let piece3 = bottom_first level2 in
+    let piece2 = top_last piece3 in
+    let level1 = top_level piece2 in
+    let piece1 = top_first level1 in
     let turned = piece1.before.before.before.before in
     let s = start piece1 in
     let w = s.args.w in
@@ -118,11 +118,11 @@ lay_lines_spec =
     tie.close
     (tie.spec
     (λ c κs. search rules)
-    lay-piece-requires
-    lay-level-requires
-    lay-piece-requires-2
-    lay-piece-requires-3
-    lay-level-requires-2
-    lay-piece-requires-4
+    lay_piece_requires
+    lay_level_requires
+    lay_piece_requires_2
+    lay_piece_requires_3
+    lay_level_requires_2
+    lay_piece_requires_4
     (λ c. search rules)
     returns)

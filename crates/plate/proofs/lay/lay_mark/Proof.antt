@@ -5,11 +5,11 @@ use Rattle.plate.specs.Laying.{lay_amounts}
 use Rattle.plate.proofs.lay.lay_mark.Statement.{statement}
 use Rattle.plate.proofs.lay.lay_mark.Tie as tie
 
-slice-read-wrapping-add-u64-2 : tie.Need-bounds-planes-matte
-slice-read-wrapping-add-u64-2 c = simp length-set (omega arith)
+slice_read_wrapping_add_u64_2 : tie.Need-bounds-planes-matte
+slice_read_wrapping_add_u64_2 c = simp length-set (omega arith)
 
-slice-write-planes-2 : tie.Need-bounds-planes-matte-2
-slice-write-planes-2 c = simp length-set (omega arith)
+slice_write_planes_2 : tie.Need-bounds-planes-matte-2
+slice_write_planes_2 c = simp length-set (omega arith)
 
 returns : tie.Need-returns
 unfolding lay_amounts lay_one
@@ -32,9 +32,9 @@ lay_mark_spec =
     (λ c. search rules)
     (λ c. search rules)
     (λ c. search rules)
-    slice-read-wrapping-add-u64-2
+    slice_read_wrapping_add_u64_2
     (λ c κs. search rules)
     (λ c. search rules)
-    slice-write-planes-2
+    slice_write_planes_2
     (λ c. search rules)
     returns)

@@ -5,8 +5,8 @@ use Rattle.plate.proofs.Laws.Laying.Corners.{few_boxes}
 use Rattle.plate.proofs.lay.lay_taps.Statement.{statement}
 use Rattle.plate.proofs.lay.lay_taps.Tie as tie
 
-lay-drawing-requires : tie.Need-lay_drawing-requires
-lay-drawing-requires c κs =
+lay_drawing_requires : tie.Need-lay_drawing-requires
+lay_drawing_requires c κs =
     let s = c.before.before.before in
     let a = s.args in (
       rw (c.draw.ensures, drawing_marks) s.requires,
@@ -18,4 +18,4 @@ returns c =
     let laid = c.before.before in rw (laid.lay_drawing.ensures, laid.before.draw.ensures, drawing_marks)
 
 pub lay_taps_spec : {M : Type 1} → statement M
-lay_taps_spec = tie.close (tie.spec (λ c κs. search rules) lay-drawing-requires (λ c. search rules) returns)
+lay_taps_spec = tie.close (tie.spec (λ c κs. search rules) lay_drawing_requires (λ c. search rules) returns)

@@ -8,21 +8,21 @@ use Rattle.plate.proofs.lay.take_pixel.Tie as tie
 abbrev start : tie.After-reach → tie.Start
 start c = c.before.before.before.before.before.before
 
-corner-of-requires : tie.Need-corner_of-corner-requires
-corner-of-requires c κs =
+corner_of_requires : tie.Need-corner_of-corner-requires
+corner_of_requires c κs =
     let s = start c in
     (s.requires.placed, rw c.reach.ensures (pixel_reaches _ _ _ _ _ _ s.requires))
 
-lay-taps-requires : tie.Need-lay_taps-requires
-lay-taps-requires c κs =
+lay_taps_requires : tie.Need-lay_taps-requires
+lay_taps_requires c κs =
     let cornered = c.before.before in
     let reached = cornered.before in
     let s = start reached in
     rw (cornered.corner_of-corner.ensures, reached.reach.ensures)
     (kernel_fits _ _ _ s.requires.placed _ _ (pixel_reaches _ _ _ _ _ _ s.requires) _ s.requires.planes_are)
 
-lay-centre-requires : tie.Need-lay_centre-requires
-lay-centre-requires c κs =
+lay_centre_requires : tie.Need-lay_centre-requires
+lay_centre_requires c κs =
     let middle = c.before.before.before.before.before in
     let s = start middle.before.before in
     rw middle.corner_of-middle.ensures
@@ -36,9 +36,9 @@ returns c =
     let cornered = middle.before in
     let reached = cornered.before in
     let centre = reached.before in
-    let centre-worth = centre.before in
-    let taps = centre-worth.before in
-    let taps-worth = taps.before in
+    let centre_worth = centre.before in
+    let taps = centre_worth.before in
+    let taps_worth = taps.before in
     let s = start reached in
     let a = s.args in
     rw (
@@ -48,9 +48,9 @@ returns c =
       cornered.corner_of-corner.ensures,
       reached.reach.ensures,
       centre.opposite-centre.ensures,
-      centre-worth.amounts_of-2.ensures,
+      centre_worth.amounts_of-2.ensures,
       taps.opposite-taps.ensures,
-      taps-worth.amounts_of.ensures,
+      taps_worth.amounts_of.ensures,
     )
     (pixel_taken a.frame _ a.x a.y a.p a.share s.requires _)
 
@@ -63,9 +63,9 @@ take_pixel_spec =
     (λ c κs. search rules)
     (λ c κs. search rules)
     (λ c κs. search rules)
-    corner-of-requires
+    corner_of_requires
     (λ c κs. search rules)
-    lay-taps-requires
-    lay-centre-requires
+    lay_taps_requires
+    lay_centre_requires
     (λ c. search rules)
     returns)

@@ -28,8 +28,8 @@ returns c =
     start.requires.0.lens_lawful start.requires.2.depth_in in
     absurd (c.in_default.not-Pixels _ some)
 
-lay-pixel-requires : tie.Need-lay_pixel-requires
-lay-pixel-requires c κs =
+lay_pixel_requires : tie.Need-lay_pixel-requires
+lay_pixel_requires c κs =
     let shared = c.before in
     let known = shared.before.before in
     let start = known.before.before.before in
@@ -41,12 +41,12 @@ lay-pixel-requires c κs =
       share_is = shared.share_in-share.ensures ∙ rw h.1 (table_share_lem _ _);
     }
 
-pack-requires : tie.Need-pack-requires
-pack-requires c κs =
+pack_requires : tie.Need-pack-requires
+pack_requires c κs =
     c.before.before.before.before.before.before.before.before.before.requires.2.value_in
 
-returns-2 : tie.Need-returns
-returns-2 c =
+returns_2 : tie.Need-returns
+returns_2 c =
     let laid = c.before.before.before in
     let r = radius laid.before.before.before.before in
     record { laid = rw (laid.lay_pixel.ensures, r); word_is = rw (c.pack.ensures, r) }
@@ -59,7 +59,7 @@ fill_pixel_spec =
     (λ c. search rules)
     returns
     (λ c κs. search rules)
-    lay-pixel-requires
-    pack-requires
+    lay_pixel_requires
+    pack_requires
     (λ c. search rules)
-    returns-2)
+    returns_2)

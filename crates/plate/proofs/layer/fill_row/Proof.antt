@@ -7,21 +7,21 @@ use Rattle.plate.proofs.Laws.Filling.Filling.{filled_more}
 use Rattle.plate.proofs.layer.fill_row.Statement.{statement}
 use Rattle.plate.proofs.layer.fill_row.Tie as tie
 
-abbrev invariant-loop : tie.invariant-loop-x
-invariant-loop planes₀ pixels₀ table layer y values opacities depths width start x₀ planes pixels x =
+abbrev invariant_loop : tie.invariant-loop-x
+invariant_loop planes₀ pixels₀ table layer y values opacities depths width start x₀ planes pixels x =
     (x ≤ width) × (length planes ≡ length planes₀) × (length pixels ≡ length pixels₀)
     × ((cells : List ℕ) → FilledTo layer (inputs values opacities depths) cells planes₀ pixels₀ start
     → FilledTo layer (inputs values opacities depths) cells planes pixels (start + x))
 
-abbrev decreases-loop : tie.decreases-loop-x
-decreases-loop planes₀ pixels₀ table layer y values opacities depths width start x₀ planes pixels x = width - x
+abbrev decreases_loop : tie.decreases-loop-x
+decreases_loop planes₀ pixels₀ table layer y values opacities depths width start x₀ planes pixels x = width - x
 
 -- where the loop begins
-abbrev entry : tie.At-loop-x invariant-loop decreases-loop → tie.Start invariant-loop decreases-loop
+abbrev entry : tie.At-loop-x invariant_loop decreases_loop → tie.Start invariant_loop decreases_loop
 entry c = c.before.before.before.before.before.before
 
 -- the place is one of the plate, so of every list
-inside : (c : tie.In-loop-x invariant-loop decreases-loop)
+inside : (c : tie.In-loop-x invariant_loop decreases_loop)
     → let a = (entry c.before).args in
     let place = a.y * (layer_size a.layer).width + c.before.loop-x.x in
     (place < length a.values.now) × (place < length a.opacities.now) × (place < length a.depths.now)
@@ -35,35 +35,35 @@ inside c =
       start.requires.0,
     )
 
-mul-start : tie.Need-overflow_mul-start invariant-loop decreases-loop
-mul-start c =
+mul_start : tie.Need-overflow_mul-start invariant_loop decreases_loop
+mul_start c =
     let start = c.before.before.before.before.before in
     let z = layer_size start.args.layer in
     omega (arith, row_in start.args.y z.width z.height start.requires.2, start.requires.0.pixels_are, start.well_formed)
 
-loop-holds : tie.Need-loop-x-init invariant-loop decreases-loop
-loop-holds c = (search rules, refl, refl, λ cells done. rw add-zero done)
+loop_holds : tie.Need-loop-x-init invariant_loop decreases_loop
+loop_holds c = (search rules, refl, refl, λ cells done. rw add-zero done)
 
-add-i : tie.Need-overflow_add-i invariant-loop decreases-loop
-add-i c = omega (arith, inside c)
+add_i : tie.Need-overflow_add-i invariant_loop decreases_loop
+add_i c = omega (arith, inside c)
 
-mul-fill-pixel : tie.Need-offset_bounds-values-i invariant-loop decreases-loop
-mul-fill-pixel c = omega (arith, inside c.before)
+mul_fill_pixel : tie.Need-offset_bounds-values-i invariant_loop decreases_loop
+mul_fill_pixel c = omega (arith, inside c.before)
 
-shared-slice-read-fill-pixel : tie.Need-bounds-values-i invariant-loop decreases-loop
-shared-slice-read-fill-pixel c = omega (arith, inside c.before.before)
+shared_slice_read_fill_pixel : tie.Need-bounds-values-i invariant_loop decreases_loop
+shared_slice_read_fill_pixel c = omega (arith, inside c.before.before)
 
-shared-slice-read-fill-pixel-2 : tie.Need-bounds-opacities-i invariant-loop decreases-loop
-shared-slice-read-fill-pixel-2 c = omega (arith, inside c.before.before.before)
+shared_slice_read_fill_pixel_2 : tie.Need-bounds-opacities-i invariant_loop decreases_loop
+shared_slice_read_fill_pixel_2 c = omega (arith, inside c.before.before.before)
 
-mul-fill-pixel-2 : tie.Need-offset_bounds-depths-i invariant-loop decreases-loop
-mul-fill-pixel-2 c = omega (arith, inside c.before.before.before)
+mul_fill_pixel_2 : tie.Need-offset_bounds-depths-i invariant_loop decreases_loop
+mul_fill_pixel_2 c = omega (arith, inside c.before.before.before)
 
-shared-slice-read-fill-pixel-3 : tie.Need-bounds-depths-i invariant-loop decreases-loop
-shared-slice-read-fill-pixel-3 c = omega (arith, inside c.before.before.before.before)
+shared_slice_read_fill_pixel_3 : tie.Need-bounds-depths-i invariant_loop decreases_loop
+shared_slice_read_fill_pixel_3 c = omega (arith, inside c.before.before.before.before)
 
-fill-pixel-requires : tie.Need-fill_pixel-word-requires invariant-loop decreases-loop
-fill-pixel-requires c κs =
+fill_pixel_requires : tie.Need-fill_pixel-word-requires invariant_loop decreases_loop
+fill_pixel_requires c κs =
     let iteration = c.before.before.before.before in
     let start = entry iteration.before in
     let h = start.requires.0 in (
@@ -77,14 +77,14 @@ fill-pixel-requires c κs =
       },
     )
 
-mul-pixels : tie.Need-offset_bounds-pixels-i invariant-loop decreases-loop
-mul-pixels c = omega (arith, inside c.before.before.before.before.before.before.before)
+mul_pixels : tie.Need-offset_bounds-pixels-i invariant_loop decreases_loop
+mul_pixels c = omega (arith, inside c.before.before.before.before.before.before.before)
 
-slice-write-pixels : tie.Need-bounds-pixels-i invariant-loop decreases-loop
-slice-write-pixels c = omega (arith, inside c.before.before.before.before.before.before.before)
+slice_write_pixels : tie.Need-bounds-pixels-i invariant_loop decreases_loop
+slice_write_pixels c = omega (arith, inside c.before.before.before.before.before.before.before)
 
-loop-again : tie.Need-loop-x-preserved invariant-loop decreases-loop
-loop-again c =
+loop_again : tie.Need-loop-x-preserved invariant_loop decreases_loop
+loop_again c =
     let made = c.before.before in
     let iteration = made.before.before.before.before.before in
     let start = entry iteration.before in
@@ -103,7 +103,7 @@ loop-again c =
           (iteration.before.loop-x.invariant.3 cells done),
     )
 
-returns : tie.Need-returns invariant-loop decreases-loop
+returns : tie.Need-returns invariant_loop decreases_loop
 unfolding FilledRow
 returns c =
     let start = entry c.before in
@@ -116,22 +116,22 @@ pub fill_row_spec : {M : Type 1} → statement M
 fill_row_spec =
     tie.close
     (tie.spec
-    invariant-loop
-    decreases-loop
-    mul-start
-    loop-holds
-    add-i
-    mul-fill-pixel
-    shared-slice-read-fill-pixel
-    shared-slice-read-fill-pixel-2
-    mul-fill-pixel-2
-    shared-slice-read-fill-pixel-3
-    fill-pixel-requires
-    mul-pixels
-    slice-write-pixels
+    invariant_loop
+    decreases_loop
+    mul_start
+    loop_holds
+    add_i
+    mul_fill_pixel
+    shared_slice_read_fill_pixel
+    shared_slice_read_fill_pixel_2
+    mul_fill_pixel_2
+    shared_slice_read_fill_pixel_3
+    fill_pixel_requires
+    mul_pixels
+    slice_write_pixels
     (λ c. search rules)
     (λ c. search rules)
-    loop-again
+    loop_again
     (λ c. search rules)
     (λ c. search rules)
     returns)

@@ -6,23 +6,23 @@ use Rattle.plate.proofs.Laws.Filling.Filling.{filled_none}
 use Rattle.plate.proofs.layer.fill_rows.Statement.{statement}
 use Rattle.plate.proofs.layer.fill_rows.Tie as tie
 
-abbrev invariant-loop : tie.invariant-loop-y
-invariant-loop planes₀ pixels₀ table layer values opacities depths height y₀ planes pixels y =
+abbrev invariant_loop : tie.invariant-loop-y
+invariant_loop planes₀ pixels₀ table layer values opacities depths height y₀ planes pixels y =
     (y ≤ height) × (length planes ≡ length planes₀) × (length pixels ≡ length pixels₀)
     × FilledTo layer (inputs values opacities depths) planes₀ planes pixels (y * (layer_size layer).width)
 
-abbrev decreases-loop : tie.decreases-loop-y
-decreases-loop planes₀ pixels₀ table layer values opacities depths height y₀ planes pixels y = height - y
+abbrev decreases_loop : tie.decreases-loop-y
+decreases_loop planes₀ pixels₀ table layer values opacities depths height y₀ planes pixels y = height - y
 
 -- where the loop begins
-abbrev entry : tie.At-loop-y invariant-loop decreases-loop → tie.Start invariant-loop decreases-loop
+abbrev entry : tie.At-loop-y invariant_loop decreases_loop → tie.Start invariant_loop decreases_loop
 entry c = c.before.before.before.before.before.before
 
-loop-holds : tie.Need-loop-y-init invariant-loop decreases-loop
-loop-holds c = (search rules, refl, refl, filled_none _ _ _ _ _ (omega arith))
+loop_holds : tie.Need-loop-y-init invariant_loop decreases_loop
+loop_holds c = (search rules, refl, refl, filled_none _ _ _ _ _ (omega arith))
 
-fill-row-requires : tie.Need-fill_row-requires invariant-loop decreases-loop
-fill-row-requires c κs =
+fill_row_requires : tie.Need-fill_row-requires invariant_loop decreases_loop
+fill_row_requires c κs =
     let iteration = c.before.before in
     let start = entry iteration.before in (
       rw (iteration.before.loop-y.invariant.1, iteration.before.loop-y.invariant.2) start.requires.0,
@@ -30,14 +30,14 @@ fill-row-requires c κs =
       iteration.loop-y-test.true,
     )
 
-loop-again : tie.Need-loop-y-preserved invariant-loop decreases-loop
+loop_again : tie.Need-loop-y-preserved invariant_loop decreases_loop
 unfolding FilledRow
-loop-again c =
+loop_again c =
     let made = c.before.before.before.before in
     let iteration = made.before.before.before.before.loop-y in
     (omega arith, search rules, search rules, made.fill_row.ensures _ iteration.invariant.3)
 
-returns : tie.Need-returns invariant-loop decreases-loop
+returns : tie.Need-returns invariant_loop decreases_loop
 returns c =
     let z = layer_size (entry c.before).args.layer in
     let last : z.height ≡ c.before.loop-y.y = omega arith in
@@ -49,13 +49,13 @@ pub fill_rows_spec : {M : Type 1} → statement M
 fill_rows_spec =
     tie.close
     (tie.spec
-    invariant-loop
-    decreases-loop
-    loop-holds
-    fill-row-requires
+    invariant_loop
+    decreases_loop
+    loop_holds
+    fill_row_requires
     (λ c. search rules)
     (λ c. search rules)
-    loop-again
+    loop_again
     (λ c. search rules)
     (λ c. search rules)
     returns)

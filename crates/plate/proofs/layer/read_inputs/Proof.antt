@@ -35,26 +35,26 @@ deep : (c : tie.After-depth_between)
 deep c = above_found depth_top _ _ c.depth_between.ensures.0 c.depth_between.ensures.1
 
 -- past the lens's check too, by that scan
-past-lens : (c : tie.After-depth_between) (opacities : List ℕ)
+past_lens : (c : tie.After-depth_between) (opacities : List ℕ)
     → let shaped = c.before.before.before in
     let a = shaped.before.before.before.before.before.before.args in
     layer_check a.lens a.shape (inputs a.values.now opacities a.depths.now)
     ≡ refuse_if c.depth_between.result Depth (inside_check a.lens a.depths.now Accepted)
 unfolding refuse_if
-past-lens c opacities =
+past_lens c opacities =
     let lensed = c.before in
     rw (past lensed.before.before opacities, ← lensed.before.lawful_lens.ensures, lensed.if-not-lawful_lens.false, ← deep c)
 
-value-above-requires : tie.Need-value_above-requires
-value-above-requires c κs = c.before.before.requires.1
+value_above_requires : tie.Need-value_above-requires
+value_above_requires c κs = c.before.before.requires.1
 
 returns : tie.Need-returns-then-value_above
 unfolding layer_check refuse_if
 returns c = λ opacities. rw (← c.before.value_above.ensures, c.if-value_above.true)
 
-returns-2 : tie.Need-returns-in_default
+returns_2 : tie.Need-returns-in_default
 unfolding layer_check refuse_if shape_check
-returns-2 c =
+returns_2 c =
     let shaped = c.before in
     let valued = shaped.before in
     λ opacities. rw (
@@ -64,35 +64,35 @@ returns-2 c =
       c.in_default.is,
     )
 
-returns-3 : tie.Need-returns-then-not-lawful_lens
+returns_3 : tie.Need-returns-then-not-lawful_lens
 unfolding refuse_if
-returns-3 c =
+returns_3 c =
     λ opacities. rw (past c.before.before opacities, ← c.before.lawful_lens.ensures, c.if-not-lawful_lens.true)
 
-returns-4 : tie.Need-returns-then-depth_between
+returns_4 : tie.Need-returns-then-depth_between
 unfolding refuse_if
-returns-4 c = λ opacities. rw (past-lens c.before opacities, c.if-depth_between.true)
+returns_4 c = λ opacities. rw (past_lens c.before opacities, c.if-depth_between.true)
 
-returns-5 : tie.Need-returns-then-depth_between-2
+returns_5 : tie.Need-returns-then-depth_between-2
 unfolding refuse_if
-returns-5 c =
+returns_5 c =
     let scanned = c.before in
     let shallow = scanned.before in
     λ opacities. rw (
-      past-lens shallow.before opacities,
+      past_lens shallow.before opacities,
       shallow.if-depth_between.false,
       ← scanned.depth_between-2.ensures.0,
       c.if-depth_between-2.true,
     )
 
-returns-6 : tie.Need-returns
+returns_6 : tie.Need-returns
 unfolding refuse_if
-returns-6 c =
+returns_6 c =
     let outside = c.before in
     let shallow = outside.before.before in
     let known = shallow.before.before.before.before in
     λ opacities. rw (
-      past-lens shallow.before opacities,
+      past_lens shallow.before opacities,
       shallow.if-depth_between.false,
       ← outside.before.depth_between-2.ensures.0,
       outside.if-depth_between-2.false,
@@ -105,17 +105,17 @@ pub read_inputs_spec : {M : Type 1} → statement M
 read_inputs_spec =
     tie.close
     (tie.spec
-    value-above-requires
+    value_above_requires
     returns
     (λ c κs. search rules)
     (λ c. search rules)
     (λ c. search rules)
-    returns-2
+    returns_2
     (λ c κs. search rules)
-    returns-3
+    returns_3
     (λ c κs. search rules)
-    returns-4
+    returns_4
     (λ c κs. search rules)
-    returns-5
+    returns_5
     (λ c κs. search rules)
-    returns-6)
+    returns_6)

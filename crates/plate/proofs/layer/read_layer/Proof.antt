@@ -19,12 +19,12 @@ returns c =
     let lengths = sym found.before.check_fill-check.ensures ∙ found.in-Refused.is in
     λ given e. layer_before _ _ _ _ _ _ (rw (← e) at lengths)
 
-read-inputs-requires : tie.Need-read_inputs-requires
-read-inputs-requires c κs =
+read_inputs_requires : tie.Need-read_inputs-requires
+read_inputs_requires c κs =
     let h = fill_accepted _ _ _ _ _ (first c.before) in (h.lawful, h.values_are, h.depths_are)
 
-returns-2 : tie.Need-returns
-returns-2 c =
+returns_2 : tie.Need-returns
+returns_2 c =
     let lengths = first c.before.before in
     λ given e. c.read_inputs.ensures given ∙ layer_past _ _ _ _ _ (rw (← e) at lengths)
 
@@ -36,5 +36,5 @@ read_layer_spec =
     (λ c. search rules)
     returns
     (λ c. search rules)
-    read-inputs-requires
-    returns-2)
+    read_inputs_requires
+    returns_2)

@@ -9,8 +9,8 @@ use Rattle.plate.proofs.layer.refill.Tie as tie
 abbrev entry : tie.After-clear_both → tie.Start
 entry c = c.before.before.before.before.before.before.before.before.before
 
-fill-rows-requires : tie.Need-fill_rows-requires
-fill-rows-requires c κs =
+fill_rows_requires : tie.Need-fill_rows-requires
+fill_rows_requires c κs =
     let shared = c.before.before.before in
     let cleared = shared.before.before.before.before.before in
     (rw (cleared.clear_both.ensures.0, length-replicate) (entry cleared).requires, shared.shares-table.ensures)
@@ -34,7 +34,7 @@ refill_spec =
     (tie.spec
     (λ c κs. search rules)
     (λ c κs. search rules)
-    fill-rows-requires
+    fill_rows_requires
     (λ c κs. search rules)
     (λ c. search rules)
     (λ c. search rules)

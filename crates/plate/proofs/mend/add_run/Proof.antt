@@ -4,49 +4,49 @@ use Rattle.plate.proofs.Laws.Showing.Writes.{Writing, writing_start, writing_one
 use Rattle.plate.proofs.mend.add_run.Statement.{statement}
 use Rattle.plate.proofs.mend.add_run.Tie as tie
 
-abbrev invariant-loop : tie.invariant-loop-i
-invariant-loop sums₀ first count by i₀ sums i =
+abbrev invariant_loop : tie.invariant-loop-i
+invariant_loop sums₀ first count by i₀ sums i =
     (i ≤ count) × Writing 1 count (λ c. first) (λ c i. (get_or sums₀ (first + i) 0 + by) % 2 ^ 64) sums₀ sums i 0
 
-abbrev decreases-loop : tie.decreases-loop-i
-decreases-loop sums₀ first count by i₀ sums i = count - i
+abbrev decreases_loop : tie.decreases-loop-i
+decreases_loop sums₀ first count by i₀ sums i = count - i
 
-abbrev start : tie.In-loop-i invariant-loop decreases-loop → tie.Start invariant-loop decreases-loop
+abbrev start : tie.In-loop-i invariant_loop decreases_loop → tie.Start invariant_loop decreases_loop
 start c = c.before.before.before
 
 -- there is room for one more
-here : (c : tie.In-loop-i invariant-loop decreases-loop) → (start c).args.first + c.before.loop-i.i < length c.before.loop-i.sums
+here : (c : tie.In-loop-i invariant_loop decreases_loop) → (start c).args.first + c.before.loop-i.i < length c.before.loop-i.sums
 here c = omega (arith, c.loop-i-test.true, (start c).requires, c.before.loop-i.invariant.1.same)
 
-loop-holds : tie.Need-loop-i-init invariant-loop decreases-loop
-loop-holds c = (search rules, writing_start _ _ _ _ _)
+loop_holds : tie.Need-loop-i-init invariant_loop decreases_loop
+loop_holds c = (search rules, writing_start _ _ _ _ _)
 
-add-wrapping-add-u64 : tie.Need-overflow_add-first invariant-loop decreases-loop
-add-wrapping-add-u64 c = omega (arith, c.loop-i-test.true, (start c).requires, (start c).well_formed)
+add_wrapping_add_u64 : tie.Need-overflow_add-first invariant_loop decreases_loop
+add_wrapping_add_u64 c = omega (arith, c.loop-i-test.true, (start c).requires, (start c).well_formed)
 
-mul-wrapping-add-u64 : tie.Need-offset_bounds-sums-first invariant-loop decreases-loop
-mul-wrapping-add-u64 c = omega (arith, c.loop-i-test.true, (start c).requires, (start c).well_formed)
+mul_wrapping_add_u64 : tie.Need-offset_bounds-sums-first invariant_loop decreases_loop
+mul_wrapping_add_u64 c = omega (arith, c.loop-i-test.true, (start c).requires, (start c).well_formed)
 
-slice-read-wrapping-add-u64 : tie.Need-bounds-sums-first invariant-loop decreases-loop
-slice-read-wrapping-add-u64 c = omega (arith, here c.before, (start c.before).well_formed)
+slice_read_wrapping_add_u64 : tie.Need-bounds-sums-first invariant_loop decreases_loop
+slice_read_wrapping_add_u64 c = omega (arith, here c.before, (start c.before).well_formed)
 
-add-sums : tie.Need-overflow_add-sums invariant-loop decreases-loop
-add-sums c = let test = c.before.before in omega (arith, test.loop-i-test.true, (start test).requires, (start test).well_formed)
+add_sums : tie.Need-overflow_add-sums invariant_loop decreases_loop
+add_sums c = let test = c.before.before in omega (arith, test.loop-i-test.true, (start test).requires, (start test).well_formed)
 
-mul-sums : tie.Need-offset_bounds-sums-first-in-loop-i invariant-loop decreases-loop
-mul-sums c = let test = c.before.before in omega (arith, test.loop-i-test.true, (start test).requires, (start test).well_formed)
+mul_sums : tie.Need-offset_bounds-sums-first-in-loop-i invariant_loop decreases_loop
+mul_sums c = let test = c.before.before in omega (arith, test.loop-i-test.true, (start test).requires, (start test).well_formed)
 
-slice-write-sums : tie.Need-bounds-sums-first-in-loop-i invariant-loop decreases-loop
-slice-write-sums c = let test = c.before.before in omega (arith, here test, (start test).well_formed)
+slice_write_sums : tie.Need-bounds-sums-first-in-loop-i invariant_loop decreases_loop
+slice_write_sums c = let test = c.before.before in omega (arith, here test, (start test).well_formed)
 
-add-i : tie.Need-overflow_step-i invariant-loop decreases-loop
-add-i c = let test = c.before.before in omega (arith, test.loop-i-test.true, (start test).requires, (start test).well_formed)
+add_i : tie.Need-overflow_step-i invariant_loop decreases_loop
+add_i c = let test = c.before.before in omega (arith, test.loop-i-test.true, (start test).requires, (start test).well_formed)
 
-loop-less : tie.Need-loop-i-smaller invariant-loop decreases-loop
-loop-less c = omega (arith, c.before.before.loop-i-test.true)
+loop_less : tie.Need-loop-i-smaller invariant_loop decreases_loop
+loop_less c = omega (arith, c.before.before.loop-i-test.true)
 
-loop-again : tie.Need-loop-i-preserved invariant-loop decreases-loop
-loop-again c =
+loop_again : tie.Need-loop-i-preserved invariant_loop decreases_loop
+loop_again c =
     let test = c.before.before in
     let iteration = test.before.loop-i in
     let s = start test in
@@ -56,25 +56,25 @@ loop-again c =
           (c.wrapping_add_u64.ensures ∙ rw old),
     )
 
-returns : tie.Need-returns invariant-loop decreases-loop
+returns : tie.Need-returns invariant_loop decreases_loop
 returns c = writing_all _ _ _ _ _ _ c.before.loop-i.i (omega arith) c.before.loop-i.invariant.1
 
 pub add_run_spec : {M : Type 1} → statement M
 add_run_spec =
     tie.close
     (tie.spec
-    invariant-loop
-    decreases-loop
-    loop-holds
-    add-wrapping-add-u64
-    mul-wrapping-add-u64
-    slice-read-wrapping-add-u64
+    invariant_loop
+    decreases_loop
+    loop_holds
+    add_wrapping_add_u64
+    mul_wrapping_add_u64
+    slice_read_wrapping_add_u64
     (λ c κs. search rules)
-    add-sums
-    mul-sums
-    slice-write-sums
-    add-i
-    loop-less
-    loop-again
+    add_sums
+    mul_sums
+    slice_write_sums
+    add_i
+    loop_less
+    loop_again
     (λ c. search rules)
     returns)

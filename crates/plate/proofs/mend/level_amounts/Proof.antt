@@ -4,13 +4,13 @@ use Rattle.plate.proofs.Laws.Mending.Gives.{matte_small, light_small}
 use Rattle.plate.proofs.mend.level_amounts.Statement.{statement}
 use Rattle.plate.proofs.mend.level_amounts.Tie as tie
 
-mul-matte : tie.Need-overflow_mul-matte
-mul-matte c =
+mul_matte : tie.Need-overflow_mul-matte
+mul_matte c =
     let s = c.before.before in
     rw c.before.weight_at.ensures (omega (arith, matte_small s.args.g 0 s.requires))
 
-mul-t3 : tie.Need-overflow_mul-result
-mul-t3 c =
+mul_t3 : tie.Need-overflow_mul-result
+mul_t3 c =
     let s = c.before.before.before in
     rw c.before.before.weight_at.ensures (omega (arith, light_small s.args.g 0 s.requires))
 
@@ -18,4 +18,4 @@ returns : tie.Need-returns
 returns c = rw c.before.before.weight_at.ensures
 
 pub level_amounts_spec : {M : Type 1} → statement M
-level_amounts_spec = tie.close (tie.spec (λ c κs. search rules) mul-matte mul-t3 returns)
+level_amounts_spec = tie.close (tie.spec (λ c κs. search rules) mul_matte mul_t3 returns)

@@ -10,24 +10,24 @@ use Rattle.plate.proofs.Laws.Mending.Rows.{InRows, still_ready, rows_next, rows_
 use Rattle.plate.proofs.mend.mend.Statement.{statement}
 use Rattle.plate.proofs.mend.mend.Tie as tie
 
-abbrev invariant-loop : tie.invariant-loop-row
-invariant-loop size change sums₀ values₀ mattes₀ old-share new-share old-reach new-reach first past row₀ sums values mattes row =
+abbrev invariant_loop : tie.invariant-loop-row
+invariant_loop size change sums₀ values₀ mattes₀ old-share new-share old-reach new-reach first past row₀ sums values mattes row =
     (first ≤ row)
     × MendedWhere size change (InRows size change first row) (canvas sums₀ values₀ mattes₀) (canvas sums values mattes)
 
-abbrev decreases-loop : tie.decreases-loop-row
-decreases-loop size change sums₀ values₀ mattes₀ old-share new-share old-reach new-reach first past row₀ sums values mattes row =
+abbrev decreases_loop : tie.decreases-loop-row
+decreases_loop size change sums₀ values₀ mattes₀ old-share new-share old-reach new-reach first past row₀ sums values mattes row =
     past - row
 
 -- where the call starts, and what is known before the loop
-abbrev start : tie.After-greater invariant-loop decreases-loop → tie.Start invariant-loop decreases-loop
+abbrev start : tie.After-greater invariant_loop decreases_loop → tie.Start invariant_loop decreases_loop
 start c = c.before.before.before.before.before.before.before.before.before.before
 
-abbrev shaped : tie.In-loop-row invariant-loop decreases-loop → tie.After-cells_around-rows invariant-loop decreases-loop
+abbrev shaped : tie.In-loop-row invariant_loop decreases_loop → tie.After-cells_around-rows invariant_loop decreases_loop
 shaped c = c.before.before
 
 -- the farther of both reaches is the plate's at most
-reaches : (c : tie.After-greater invariant-loop decreases-loop) → let a = (start c).args in
+reaches : (c : tie.After-greater invariant_loop decreases_loop) → let a = (start c).args in
     (reach_of a.change.old.shape a.change.old.radius ≤ c.greater.result)
     × (reach_of a.change.new.shape a.change.new.radius ≤ c.greater.result)
     × (c.greater.result ≤ reach_top)
@@ -52,22 +52,22 @@ reaches c =
       ),
     )
 
-add-cells-around : tie.Need-overflow_add-greater invariant-loop decreases-loop
-add-cells-around c = omega (arith, (reaches c).2)
+add_cells_around : tie.Need-overflow_add-greater invariant_loop decreases_loop
+add_cells_around c = omega (arith, (reaches c).2)
 
-cells-around-requires : tie.Need-cells_around-rows-requires invariant-loop decreases-loop
-cells-around-requires c κs =
+cells_around_requires : tie.Need-cells_around-rows-requires invariant_loop decreases_loop
+cells_around_requires c κs =
     let s = start c in (s.requires.change.row_in, s.requires.change.lawful.height_top, omega (arith, (reaches c).2))
 
-loop-holds : tie.Need-loop-row-init invariant-loop decreases-loop
-loop-holds c = (omega arith, mended-none _ _ _ _ (λ i s. omega (arith, s.0, s.1)))
+loop_holds : tie.Need-loop-row-init invariant_loop decreases_loop
+loop_holds c = (omega arith, mended-none _ _ _ _ (λ i s. omega (arith, s.0, s.1)))
 
 -- a row of the range is one of the plate's
-row_in : (c : tie.In-loop-row invariant-loop decreases-loop) → c.before.loop-row.row < (start (shaped c).before).args.size.height
+row_in : (c : tie.In-loop-row invariant_loop decreases_loop) → c.before.loop-row.row < (start (shaped c).before).args.size.height
 row_in c = omega (arith, c.loop-row-test.true, (shaped c).cells_around-rows.ensures.1)
 
-mend-row-requires : tie.Need-mend_row-requires invariant-loop decreases-loop
-mend-row-requires c κs =
+mend_row_requires : tie.Need-mend_row-requires invariant_loop decreases_loop
+mend_row_requires c κs =
     let test = c.before.before.before in
     let made = (shaped test).before in
     let iteration = test.before.loop-row in (
@@ -81,18 +81,18 @@ mend-row-requires c κs =
       ),
     )
 
-add_row : tie.Need-overflow_step-row invariant-loop decreases-loop
+add_row : tie.Need-overflow_step-row invariant_loop decreases_loop
 add_row c =
     let test = c.before.before.before.before.before.before.before.before.before.before in
     omega (arith, row_in test, (start (shaped test).before).requires.change.lawful.height_top)
 
-loop-less : tie.Need-loop-row-smaller invariant-loop decreases-loop
-loop-less c =
+loop_less : tie.Need-loop-row-smaller invariant_loop decreases_loop
+loop_less c =
     let test = c.before.before.before.before.before.before.before.before.before.before in
     omega (arith, test.loop-row-test.true)
 
-loop-again : tie.Need-loop-row-preserved invariant-loop decreases-loop
-loop-again c =
+loop_again : tie.Need-loop-row-preserved invariant_loop decreases_loop
+loop_again c =
     let made = c.before.before.before.before.before.before in
     let iteration = made.before.before.before.before.before.loop-row in (
       omega (arith, iteration.invariant.0),
@@ -100,16 +100,16 @@ loop-again c =
           made.mend_row.ensures,
     )
 
-same_length : tie.Need-shape_of-sums invariant-loop decreases-loop
+same_length : tie.Need-shape_of-sums invariant_loop decreases_loop
 same_length c = c.before.loop-row.invariant.1.same_sums
 
-same-length-2 : tie.Need-shape_of-values invariant-loop decreases-loop
-same-length-2 c = c.before.loop-row.invariant.1.same_values
+same_length_2 : tie.Need-shape_of-values invariant_loop decreases_loop
+same_length_2 c = c.before.loop-row.invariant.1.same_values
 
-same-length-3 : tie.Need-shape_of-mattes invariant-loop decreases-loop
-same-length-3 c = c.before.loop-row.invariant.1.same_mattes
+same_length_3 : tie.Need-shape_of-mattes invariant_loop decreases_loop
+same_length_3 c = c.before.loop-row.invariant.1.same_mattes
 
-returns : tie.Need-returns invariant-loop decreases-loop
+returns : tie.Need-returns invariant_loop decreases_loop
 returns c =
     let iteration = c.before.loop-row in
     let shape = c.before.before in
@@ -124,21 +124,21 @@ pub mend_spec : {M : Type 1} → statement M
 mend_spec =
     tie.close
     (tie.spec
-    invariant-loop
-    decreases-loop
+    invariant_loop
+    decreases_loop
     (λ c κs. search rules)
     (λ c κs. search rules)
     (λ c κs. search rules)
     (λ c κs. search rules)
     (λ c κs. search rules)
-    add-cells-around
-    cells-around-requires
-    loop-holds
-    mend-row-requires
+    add_cells_around
+    cells_around_requires
+    loop_holds
+    mend_row_requires
     add_row
-    loop-less
-    loop-again
+    loop_less
+    loop_again
     same_length
-    same-length-2
-    same-length-3
+    same_length_2
+    same_length_3
     returns)

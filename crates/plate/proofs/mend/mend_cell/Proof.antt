@@ -11,30 +11,30 @@ start c = c.before.before.before.before.before
 abbrev weighed : tie.After-weight_at-2 → tie.After-weight_at
 weighed c = c.before.before.before
 
-mul-gave : tie.Need-overflow_mul-gave
-mul-gave c =
+mul_gave : tie.Need-overflow_mul-gave
+mul_gave c =
     let s = start c.before in
     rw c.before.weight_at.ensures (omega (arith, matte_small s.args.old s.args.dx s.requires.old_few))
 
-mul-gives : tie.Need-overflow_mul-gives
-mul-gives c =
+mul_gives : tie.Need-overflow_mul-gives
+mul_gives c =
     let s = start (weighed c.before) in
     rw c.before.weight_at-2.ensures (omega (arith, matte_small s.args.new s.args.dx s.requires.new_few))
 
-mul-mend-sum : tie.Need-overflow_mul-old
-mul-mend-sum c =
+mul_mend_sum : tie.Need-overflow_mul-old
+mul_mend_sum c =
     let first = c.before.before.before.before.before.before.before in
     let s = start first in
     rw first.weight_at.ensures (omega (arith, light_small s.args.old s.args.dx s.requires.old_few))
 
-mul-mend-sum-2 : tie.Need-overflow_mul-new
-mul-mend-sum-2 c =
+mul_mend_sum_2 : tie.Need-overflow_mul-new
+mul_mend_sum_2 c =
     let second = c.before.before.before.before.before in
     let s = start (weighed second) in
     rw second.weight_at-2.ensures (omega (arith, light_small s.args.new s.args.dx s.requires.new_few))
 
-slice-write-sums-2 : tie.Need-bounds-sums-places-2
-slice-write-sums-2 c =
+slice_write_sums_2 : tie.Need-bounds-sums-places-2
+slice_write_sums_2 c =
     let s = c.before.before.before.before.before.before.before.before.before.before.before.before.before in
     omega
     (arith, length-set s.args.sums.now s.args.place c.before.mend_sum-light.result, s.requires.place_in, s.requires.sums_are)
@@ -60,23 +60,23 @@ mend_cell_spec =
     tie.close
     (tie.spec
     (λ c κs. search rules)
-    mul-gave
+    mul_gave
     (λ c κs. search rules)
-    mul-gives
+    mul_gives
     (λ c. search rules)
     (λ c. search rules)
     (λ c. search rules)
     (λ c. search rules)
     (λ c. search rules)
-    mul-mend-sum
-    mul-mend-sum-2
+    mul_mend_sum
+    mul_mend_sum_2
     (λ c κs. search rules)
     (λ c κs. search rules)
     (λ c. search rules)
     (λ c. search rules)
     (λ c. search rules)
     (λ c. search rules)
-    slice-write-sums-2
+    slice_write_sums_2
     (λ c κs. search rules)
     (λ c. search rules)
     (λ c. search rules)

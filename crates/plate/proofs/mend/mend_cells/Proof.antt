@@ -9,29 +9,29 @@ use Rattle.plate.proofs.Laws.Mending.Rows.{still_ready, cell_ready, column_mende
 use Rattle.plate.proofs.mend.mend_cells.Statement.{statement}
 use Rattle.plate.proofs.mend.mend_cells.Tie as tie
 
-abbrev invariant-loop : tie.invariant-loop-column
-invariant-loop sums₀ values₀ mattes₀ size change old new row places span first past column₀ sums values mattes column =
+abbrev invariant_loop : tie.invariant-loop-column
+invariant_loop sums₀ values₀ mattes₀ size change old new row places span first past column₀ sums values mattes column =
     (first ≤ column)
     × (column ≤ first + (past - first))
     × MendedWhere size change (InRange size row first column) (canvas sums₀ values₀ mattes₀) (canvas sums values mattes)
 
-abbrev decreases-loop : tie.decreases-loop-column
-decreases-loop sums₀ values₀ mattes₀ size change old new row places span first past column₀ sums values mattes column = past - column
+abbrev decreases_loop : tie.decreases-loop-column
+decreases_loop sums₀ values₀ mattes₀ size change old new row places span first past column₀ sums values mattes column = past - column
 
 -- where the call starts
-abbrev start : tie.After-cells_around-columns invariant-loop decreases-loop → tie.Start invariant-loop decreases-loop
+abbrev start : tie.After-cells_around-columns invariant_loop decreases_loop → tie.Start invariant_loop decreases_loop
 start c = c.before.before.before.before.before.before
 
 -- what is known of the row before the loop
-abbrev shaped : tie.In-loop-column invariant-loop decreases-loop → tie.After-cells_around-columns invariant-loop decreases-loop
+abbrev shaped : tie.In-loop-column invariant_loop decreases_loop → tie.After-cells_around-columns invariant_loop decreases_loop
 shaped c = c.before.before
 
 -- a column of the range is one of the plate's
-column_in : (c : tie.In-loop-column invariant-loop decreases-loop) → c.before.loop-column.column < (start (shaped c)).args.size.width
+column_in : (c : tie.In-loop-column invariant_loop decreases_loop) → c.before.loop-column.column < (start (shaped c)).args.size.width
 column_in c = omega (arith, c.loop-column-test.true, (shaped c).cells_around-columns.ensures.1)
 
 -- and its place is far below 2 ^ 64
-place_in : (c : tie.In-loop-column invariant-loop decreases-loop) → let a = (start (shaped c)).args in
+place_in : (c : tie.In-loop-column invariant_loop decreases_loop) → let a = (start (shaped c)).args in
     a.row * a.size.width + c.before.loop-column.column < places_top
 place_in c =
     let s = start (shaped c) in
@@ -42,29 +42,29 @@ place_in c =
       s.requires.ready.change.lawful.places_top_fact,
     )
 
-mul-places : tie.Need-overflow_mul-places invariant-loop decreases-loop
-mul-places c =
+mul_places : tie.Need-overflow_mul-places invariant_loop decreases_loop
+mul_places c =
     let pre = c.before.before.before.before.requires in omega (arith, pre.ready.change.lawful.places_top_fact)
 
-cells-around-requires : tie.Need-cells_around-columns-requires invariant-loop decreases-loop
-cells-around-requires c κs =
+cells_around_requires : tie.Need-cells_around-columns-requires invariant_loop decreases_loop
+cells_around_requires c κs =
     let s = c.before.before.before.before.before in (
       s.requires.ready.change.column_in,
       s.requires.ready.change.lawful.width_top,
       omega (arith, c.greater-span.ensures, span_low _ _ _ _ _ _ s.requires, s.requires.ready.change.lawful.width_top),
     )
 
-loop-holds : tie.Need-loop-column-init invariant-loop decreases-loop
-loop-holds c = (omega arith, omega arith, mended-none _ _ _ _ (λ i s. omega (arith, s.1, s.2)))
+loop_holds : tie.Need-loop-column-init invariant_loop decreases_loop
+loop_holds c = (omega arith, omega arith, mended-none _ _ _ _ (λ i s. omega (arith, s.1, s.2)))
 
-mul-place : tie.Need-overflow_mul-place invariant-loop decreases-loop
-mul-place c = omega (arith, place_in c.before)
+mul_place : tie.Need-overflow_mul-place invariant_loop decreases_loop
+mul_place c = omega (arith, place_in c.before)
 
-add-place : tie.Need-overflow_add-place invariant-loop decreases-loop
-add-place c = omega (arith, place_in c.before)
+add_place : tie.Need-overflow_add-place invariant_loop decreases_loop
+add_place c = omega (arith, place_in c.before)
 
-mend-cell-requires : tie.Need-mend_cell-requires invariant-loop decreases-loop
-mend-cell-requires c κs =
+mend_cell_requires : tie.Need-mend_cell-requires invariant_loop decreases_loop
+mend_cell_requires c κs =
     let test = c.before.before.before.before.before in
     let iteration = test.before.loop-column in
     let s = start (shaped test) in
@@ -72,18 +72,18 @@ mend-cell-requires c κs =
     s.requires.old_is s.requires.new_is
     iteration.column (column_in test)
 
-add-column : tie.Need-overflow_step-column invariant-loop decreases-loop
-add-column c =
+add_column : tie.Need-overflow_step-column invariant_loop decreases_loop
+add_column c =
     let test = c.before.before.before.before.before.before.before.before.before.before.before.before in
     omega (arith, column_in test, (start (shaped test)).requires.ready.change.lawful.width_top)
 
-loop-less : tie.Need-loop-column-smaller invariant-loop decreases-loop
-loop-less c =
+loop_less : tie.Need-loop-column-smaller invariant_loop decreases_loop
+loop_less c =
     let test = c.before.before.before.before.before.before.before.before.before.before.before.before in
     omega (arith, test.loop-column-test.true)
 
-loop-again : tie.Need-loop-column-preserved invariant-loop decreases-loop
-loop-again c =
+loop_again : tie.Need-loop-column-preserved invariant_loop decreases_loop
+loop_again c =
     let made = c.before.before.before.before.before.before in
     let test = made.before.before.before.before.before.before in
     let iteration = test.before.loop-column in
@@ -97,16 +97,16 @@ loop-again c =
           iteration.column _ (column_in test) done),
     )
 
-same_length : tie.Need-shape_of-sums invariant-loop decreases-loop
+same_length : tie.Need-shape_of-sums invariant_loop decreases_loop
 same_length c = c.before.loop-column.invariant.2.same_sums
 
-same-length-2 : tie.Need-shape_of-values invariant-loop decreases-loop
-same-length-2 c = c.before.loop-column.invariant.2.same_values
+same_length_2 : tie.Need-shape_of-values invariant_loop decreases_loop
+same_length_2 c = c.before.loop-column.invariant.2.same_values
 
-same-length-3 : tie.Need-shape_of-mattes invariant-loop decreases-loop
-same-length-3 c = c.before.loop-column.invariant.2.same_mattes
+same_length_3 : tie.Need-shape_of-mattes invariant_loop decreases_loop
+same_length_3 c = c.before.loop-column.invariant.2.same_mattes
 
-returns : tie.Need-returns invariant-loop decreases-loop
+returns : tie.Need-returns invariant_loop decreases_loop
 returns c =
     let iteration = c.before.loop-column in
     let made = c.before.before in
@@ -119,20 +119,20 @@ pub mend_cells_spec : {M : Type 1} → statement M
 mend_cells_spec =
     tie.close
     (tie.spec
-    invariant-loop
-    decreases-loop
-    mul-places
+    invariant_loop
+    decreases_loop
+    mul_places
     (λ c κs. search rules)
-    cells-around-requires
-    loop-holds
-    mul-place
-    add-place
+    cells_around_requires
+    loop_holds
+    mul_place
+    add_place
     (λ c κs. search rules)
-    mend-cell-requires
-    add-column
-    loop-less
-    loop-again
+    mend_cell_requires
+    add_column
+    loop_less
+    loop_again
     same_length
-    same-length-2
-    same-length-3
+    same_length_2
+    same_length_3
     returns)

@@ -9,10 +9,10 @@ use Rattle.plate.proofs.mend.mend_row.Tie as tie
 abbrev start : tie.After-given_row-new → tie.Start
 start c = c.before.before.before.before.before.before.before.before
 
-row-ready : (c : tie.After-given_row-new) → let a = (start c).args in
+row_ready : (c : tie.After-given_row-new) → let a = (start c).args in
     RowToMend a.size a.change a.row c.before.given_row-old.result c.given_row-new.result
     (canvas a.sums.now a.values.now a.mattes.now)
-row-ready c =
+row_ready c =
     let pre = (start c).requires in
     let far = c.before.before.distance-dy.ensures in
     record {
@@ -22,16 +22,16 @@ row-ready c =
       new_is = rw (← far) c.given_row-new.ensures;
     }
 
-mend-runs-requires : tie.Need-mend_runs-requires
-mend-runs-requires c κs =
+mend_runs_requires : tie.Need-mend_runs-requires
+mend_runs_requires c κs =
     let second = c.before.before.before in
     let first = second.before.before in (
-      row-ready first.before.before.before.before,
+      row_ready first.before.before.before.before,
       (sym first.before.is_level.ensures ∙ first.if-is_level.true, sym second.before.is_level-then-is_level.ensures ∙ second.if-is_level-2.true),
     )
 
-mend-cells-requires : tie.Need-mend_cells-requires
-mend-cells-requires c κs = row-ready c.before.before.before.before.before.before
+mend_cells_requires : tie.Need-mend_cells-requires
+mend_cells_requires c κs = row_ready c.before.before.before.before.before.before
 
 pub mend_row_spec : {M : Type 1} → statement M
 mend_row_spec =
@@ -42,12 +42,12 @@ mend_row_spec =
     (λ c κs. search rules)
     (λ c κs. search rules)
     (λ c κs. search rules)
-    mend-runs-requires
+    mend_runs_requires
     (λ c. search rules)
     (λ c. search rules)
     (λ c. search rules)
     (λ c. search rules)
-    mend-cells-requires
+    mend_cells_requires
     (λ c. search rules)
     (λ c. search rules)
     (λ c. search rules)

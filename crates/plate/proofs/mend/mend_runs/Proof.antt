@@ -14,51 +14,51 @@ use Rattle.plate.proofs.mend.mend_runs.Statement.{statement}
 use Rattle.plate.proofs.mend.mend_runs.Tie as tie
 
 -- the row's places are far below 2 ^ 64
-places-low : (s : tie.Start) → s.args.size.width * s.args.size.height ≤ places_top
-places-low s = s.requires.0.ready.change.lawful.places_top_fact
+places_low : (s : tie.Start) → s.args.size.width * s.args.size.height ≤ places_top
+places_low s = s.requires.0.ready.change.lawful.places_top_fact
 
 row_low : (s : tie.Start) → let a = s.args in a.row * a.size.width + a.size.width ≤ a.size.width * a.size.height
 row_low s = let a = s.args in row_in a.row a.size.width a.size.height s.requires.0.row_in
 
-mul-start : tie.Need-overflow_mul-start
-mul-start c = let s = c.before.before.before.before in omega (arith, row_low s, places-low s)
+mul_start : tie.Need-overflow_mul-start
+mul_start c = let s = c.before.before.before.before in omega (arith, row_low s, places_low s)
 
-cells-around-requires : tie.Need-cells_around-old_run-requires
-cells-around-requires c κs =
+cells_around_requires : tie.Need-cells_around-old_run-requires
+cells_around_requires c κs =
     let s = c.before.before.before.before in
     let r = s.requires.0 in
     (r.ready.change.column_in, r.ready.change.lawful.width_top, omega (arith, (span_low _ _ _ _ _ _ r).0))
 
-cells-around-requires-2 : tie.Need-cells_around-new_run-requires
-cells-around-requires-2 c κs =
+cells_around_requires_2 : tie.Need-cells_around-new_run-requires
+cells_around_requires_2 c κs =
     let s = c.before.before.before.before.before in
     let r = s.requires.0 in
     (r.ready.change.column_in, r.ready.change.lawful.width_top, omega (arith, (span_low _ _ _ _ _ _ r).1))
 
-level-amounts-requires : tie.Need-level_amounts-requires
-level-amounts-requires c κs =
+level_amounts_requires : tie.Need-level_amounts-requires
+level_amounts_requires c κs =
     let s = c.before.before.before.before.before.before.before in
     gives_few _ _ _ _ s.requires.0.ready.change.old_fits s.requires.0.old_is
 
-give-run-requires : tie.Need-give_run-requires
-give-run-requires c κs =
+give_run_requires : tie.Need-give_run-requires
+give_run_requires c κs =
     let s = c.before.before.before.before.before.before.before.before.before in
     run_in _ _ _ _ _ _ s.requires.0 _ _ c.before.before.before.before.cells_around-old_run.ensures _ s.requires.0.ready.sums_are
 
-level-amounts-requires-2 : tie.Need-level_amounts-requires-2
-level-amounts-requires-2 c κs =
+level_amounts_requires_2 : tie.Need-level_amounts-requires-2
+level_amounts_requires_2 c κs =
     let s = c.before.before.before.before.before.before.before.before.before.before.before.before.before in
     gives_few _ _ _ _ s.requires.0.ready.change.new_fits s.requires.0.new_is
 
-give-run-requires-2 : tie.Need-give_run-requires-2
-give-run-requires-2 c κs =
+give_run_requires_2 : tie.Need-give_run-requires-2
+give_run_requires_2 c κs =
     let s = c.before.before.before.before.before.before.before.before.before.before.before.before.before.before in
     run_in _ _ _ _ _ _ s.requires.0 _ _
     c.before.before.before.before.before.before.before.before.cells_around-new_run.ensures _
     (c.before.before.before.before.give_run.ensures.same ∙ s.requires.0.ready.sums_are)
 
-cells-around-requires-3 : tie.Need-cells_around-columns-requires
-cells-around-requires-3 c κs =
+cells_around_requires_3 : tie.Need-cells_around-columns-requires
+cells_around_requires_3 c κs =
     let given = c.before.before.before.before.before.before.before.before.before in
     let s = given.before.before.before.before.before.before.before.before.before in
     let r = s.requires.0 in
@@ -72,27 +72,27 @@ start c =
     given.before.before.before.before.before.before.before.before.before
 
 -- the wider range lies in the row
-wide-in : (c : tie.After-cells_around-columns) → let a = (start c).args in
+wide_in : (c : tie.After-cells_around-columns) → let a = (start c).args in
     let s = c.cells_around-columns.result in
     (a.row * a.size.width + s.first ≤ a.size.width * a.size.height)
     × (a.row * a.size.width + s.past ≤ a.size.width * a.size.height)
-wide-in c =
+wide_in c =
     let s = start c in
     let e = c.cells_around-columns.ensures in
     (omega (arith, e.0, s.requires.0.ready.change.column_in, row_low s), omega (arith, e.1, row_low s))
 
-add-first : tie.Need-overflow_add-first
-add-first c = let made = c.before in omega (arith, (wide-in made).0, places-low (start made))
+add_first : tie.Need-overflow_add-first
+add_first c = let made = c.before in omega (arith, (wide_in made).0, places_low (start made))
 
-add-round-row : tie.Need-overflow_add-places
-add-round-row c =
-    let made = c.before.before.before.before in omega (arith, (wide-in made).0, places-low (start made))
+add_round_row : tie.Need-overflow_add-places
+add_round_row c =
+    let made = c.before.before.before.before in omega (arith, (wide_in made).0, places_low (start made))
 
-round-row-requires : tie.Need-round_row-requires
-round-row-requires c κs =
+round_row_requires : tie.Need-round_row-requires
+round_row_requires c κs =
     let made = c.before.before.before.before in
     let s = start made in
-    let w = wide-in made in
+    let w = wide_in made in
     let count = c.before.before.less-count.ensures in
     let one = made.before.before.before.before.give_run-2.ensures.same in
     let two = made.before.before.before.before.before.before.before.before.before.give_run.ensures.same in
@@ -143,20 +143,20 @@ mend_runs_spec =
     tie.close
     (tie.spec
     (λ c. search rules)
-    mul-start
-    cells-around-requires
-    cells-around-requires-2
-    level-amounts-requires
+    mul_start
+    cells_around_requires
+    cells_around_requires_2
+    level_amounts_requires
     (λ c κs. search rules)
-    give-run-requires
-    level-amounts-requires-2
-    give-run-requires-2
+    give_run_requires
+    level_amounts_requires_2
+    give_run_requires_2
     (λ c κs. search rules)
-    cells-around-requires-3
-    add-first
+    cells_around_requires_3
+    add_first
     (λ c κs. search rules)
-    add-round-row
-    round-row-requires
+    add_round_row
+    round_row_requires
     (λ c. search rules)
     (λ c. search rules)
     (λ c. search rules)

@@ -10,9 +10,9 @@ returns c =
     let found = c.before.before in
     rw (c.refused.ensures, c.before.state_of.ensures, ← found.before.check_open-check.ensures, found.in-Refused.is)
 
-returns-2 : tie.Need-returns
+returns_2 : tie.Need-returns
 unfolding open_call open_by
-returns-2 c =
+returns_2 c =
     let logged = c.before.before.before in
     let stored = logged.before.before.before.before in
     let laid = stored.before.before.before.before in
@@ -43,4 +43,4 @@ open_spec =
     (λ c. search rules)
     (λ c. search rules)
     (λ c. search rules)
-    returns-2)
+    returns_2)

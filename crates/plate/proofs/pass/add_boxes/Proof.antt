@@ -29,79 +29,79 @@ first c = c.before.before.before.before.before.before
 abbrev then : tie.After-add_to-second_down → tie.After-add_to-third_down
 then c = c.before.before.before.before.before.before
 
-mul-wrapping-add-u64 : tie.Need-overflow_mul-apart
-mul-wrapping-add-u64 c = let start = c.before.before in omega (arith, start.requires, start.well_formed)
+mul_wrapping_add_u64 : tie.Need-overflow_mul-apart
+mul_wrapping_add_u64 c = let start = c.before.before in omega (arith, start.requires, start.well_formed)
 
-add-wrapping-add-u64 : tie.Need-overflow_add-mark
-add-wrapping-add-u64 c = let start = c.before.before in omega (arith, start.requires, start.well_formed)
+add_wrapping_add_u64 : tie.Need-overflow_add-mark
+add_wrapping_add_u64 c = let start = c.before.before in omega (arith, start.requires, start.well_formed)
 
-mul-wrapping-add-u64-2 : tie.Need-offset_bounds-planes-mark
-mul-wrapping-add-u64-2 c = let start = c.before.before in omega (arith, start.requires, start.well_formed)
+mul_wrapping_add_u64_2 : tie.Need-offset_bounds-planes-mark
+mul_wrapping_add_u64_2 c = let start = c.before.before in omega (arith, start.requires, start.well_formed)
 
-shared-slice-read-wrapping-add-u64 : tie.Need-bounds-planes-mark
-shared-slice-read-wrapping-add-u64 c = let start = c.before.before.before in omega (arith, start.requires, start.well_formed)
+shared_slice_read_wrapping_add_u64 : tie.Need-bounds-planes-mark
+shared_slice_read_wrapping_add_u64 c = let start = c.before.before.before in omega (arith, start.requires, start.well_formed)
 
-add-to-requires : tie.Need-add_to-third_down-requires
-add-to-requires c κs = let start = c.before.before.before.before.before in omega (arith, start.requires, start.well_formed)
+add_to_requires : tie.Need-add_to-third_down-requires
+add_to_requires c κs = let start = c.before.before.before.before.before in omega (arith, start.requires, start.well_formed)
 
-mul-add-three : tie.Need-overflow_mul-apart-2
-mul-add-three c = let start = first c.before.before in omega (arith, start.requires, start.well_formed)
+mul_add_three : tie.Need-overflow_mul-apart-2
+mul_add_three c = let start = first c.before.before in omega (arith, start.requires, start.well_formed)
 
-add-add-three : tie.Need-overflow_add-mark-2
-add-add-three c = let start = first c.before.before in omega (arith, start.requires, start.well_formed)
+add_add_three : tie.Need-overflow_add-mark-2
+add_add_three c = let start = first c.before.before in omega (arith, start.requires, start.well_formed)
 
-mul-add-three-2 : tie.Need-offset_bounds-planes-mark-2
-mul-add-three-2 c = let start = first c.before.before in omega (arith, start.requires, start.well_formed)
+mul_add_three_2 : tie.Need-offset_bounds-planes-mark-2
+mul_add_three_2 c = let start = first c.before.before in omega (arith, start.requires, start.well_formed)
 
-shared-slice-read-add-three : tie.Need-bounds-planes-mark-2
-shared-slice-read-add-three c = let start = first c.before.before.before in omega (arith, start.requires, start.well_formed)
+shared_slice_read_add_three : tie.Need-bounds-planes-mark-2
+shared_slice_read_add_three c = let start = first c.before.before.before in omega (arith, start.requires, start.well_formed)
 
-add-to-requires-2 : tie.Need-add_to-second_down-requires
-add-to-requires-2 c κs =
+add_to_requires_2 : tie.Need-add_to-second_down-requires
+add_to_requires_2 c κs =
     let third = c.before.before.before.before in
     omega (arith, third.scratch-1.given, (first third.before).requires)
 
-mul-add-three-3 : tie.Need-overflow_mul-apart-3
-mul-add-three-3 c = let start = first (then c.before.before) in omega (arith, start.requires, start.well_formed)
+mul_add_three_3 : tie.Need-overflow_mul-apart-3
+mul_add_three_3 c = let start = first (then c.before.before) in omega (arith, start.requires, start.well_formed)
 
-add-add-three-2 : tie.Need-overflow_add-mark-3
-add-add-three-2 c = let start = first (then c.before.before) in omega (arith, start.requires, start.well_formed)
+add_add_three_2 : tie.Need-overflow_add-mark-3
+add_add_three_2 c = let start = first (then c.before.before) in omega (arith, start.requires, start.well_formed)
 
-mul-add-three-4 : tie.Need-offset_bounds-planes-mark-3
-mul-add-three-4 c = let start = first (then c.before.before) in omega (arith, start.requires, start.well_formed)
+mul_add_three_4 : tie.Need-offset_bounds-planes-mark-3
+mul_add_three_4 c = let start = first (then c.before.before) in omega (arith, start.requires, start.well_formed)
 
-shared-slice-read-add-three-2 : tie.Need-bounds-planes-mark-3
-shared-slice-read-add-three-2 c = let start = first (then c.before.before.before) in omega (arith, start.requires, start.well_formed)
+shared_slice_read_add_three_2 : tie.Need-bounds-planes-mark-3
+shared_slice_read_add_three_2 c = let start = first (then c.before.before.before) in omega (arith, start.requires, start.well_formed)
 
 returns : tie.Need-returns
 returns c =
-    let second-down = c.before.before.before.before in
-    let second = second-down.before.before in
-    let third-down = then second-down in
-    let third = third-down.before.before in
-    boxed _ _ _ _ _ _ _ _ _ _ _ _ _ _ (first third-down).requires.third_first third.wrapping_add_u64-third_across.ensures
-    third-down.add_to-third_down.ensures second.add_three-second_across.ensures second-down.add_to-second_down.ensures c.add_three.ensures
+    let second_down = c.before.before.before.before in
+    let second = second_down.before.before in
+    let third_down = then second_down in
+    let third = third_down.before.before in
+    boxed _ _ _ _ _ _ _ _ _ _ _ _ _ _ (first third_down).requires.third_first third.wrapping_add_u64-third_across.ensures
+    third_down.add_to-third_down.ensures second.add_three-second_across.ensures second_down.add_to-second_down.ensures c.add_three.ensures
 
 pub add_boxes_spec : {M : Type 1} → statement M
 add_boxes_spec =
     tie.close
     (tie.spec
-    mul-wrapping-add-u64
-    add-wrapping-add-u64
-    mul-wrapping-add-u64-2
-    shared-slice-read-wrapping-add-u64
+    mul_wrapping_add_u64
+    add_wrapping_add_u64
+    mul_wrapping_add_u64_2
+    shared_slice_read_wrapping_add_u64
     (λ c κs. search rules)
-    add-to-requires
-    mul-add-three
-    add-add-three
-    mul-add-three-2
-    shared-slice-read-add-three
+    add_to_requires
+    mul_add_three
+    add_add_three
+    mul_add_three_2
+    shared_slice_read_add_three
     (λ c κs. search rules)
-    add-to-requires-2
-    mul-add-three-3
-    add-add-three-2
-    mul-add-three-4
-    shared-slice-read-add-three-2
+    add_to_requires_2
+    mul_add_three_3
+    add_add_three_2
+    mul_add_three_4
+    shared_slice_read_add_three_2
     (λ c κs. search rules)
     (λ c. search rules)
     returns)

@@ -11,41 +11,41 @@ met m s a b p q x y r ex ey er = record { sum_is = er ∙ rw (ex, ey); cells = r
 abbrev first : tie.After-wrapping_add_u64-sum_one → tie.Start
 first c = c.before.before.before.before.before
 
-mul-wrapping-add-u64 : tie.Need-offset_bounds-scratch-one
-mul-wrapping-add-u64 c = let start = c.before.before in omega (arith, start.requires, start.well_formed)
+mul_wrapping_add_u64 : tie.Need-offset_bounds-scratch-one
+mul_wrapping_add_u64 c = let start = c.before.before in omega (arith, start.requires, start.well_formed)
 
-slice-read-wrapping-add-u64 : tie.Need-bounds-scratch-one
-slice-read-wrapping-add-u64 c = let start = c.before.before.before in omega (arith, start.requires, start.well_formed)
+slice_read_wrapping_add_u64 : tie.Need-bounds-scratch-one
+slice_read_wrapping_add_u64 c = let start = c.before.before.before in omega (arith, start.requires, start.well_formed)
 
-mul-wrapping-add-u64-2 : tie.Need-offset_bounds-planes-mark_one
-mul-wrapping-add-u64-2 c = let start = c.before.before.before in omega (arith, start.requires, start.well_formed)
+mul_wrapping_add_u64_2 : tie.Need-offset_bounds-planes-mark_one
+mul_wrapping_add_u64_2 c = let start = c.before.before.before in omega (arith, start.requires, start.well_formed)
 
-shared-slice-read-wrapping-add-u64 : tie.Need-bounds-planes-mark_one
-shared-slice-read-wrapping-add-u64 c = let start = c.before.before.before.before in omega (arith, start.requires, start.well_formed)
+shared_slice_read_wrapping_add_u64 : tie.Need-bounds-planes-mark_one
+shared_slice_read_wrapping_add_u64 c = let start = c.before.before.before.before in omega (arith, start.requires, start.well_formed)
 
-mul-wrapping-add-u64-3 : tie.Need-offset_bounds-scratch-two
-mul-wrapping-add-u64-3 c = let start = first c in omega (arith, start.requires, start.well_formed)
+mul_wrapping_add_u64_3 : tie.Need-offset_bounds-scratch-two
+mul_wrapping_add_u64_3 c = let start = first c in omega (arith, start.requires, start.well_formed)
 
-slice-read-wrapping-add-u64-2 : tie.Need-bounds-scratch-two
-slice-read-wrapping-add-u64-2 c = let start = first c.before in omega (arith, start.requires, start.well_formed)
+slice_read_wrapping_add_u64_2 : tie.Need-bounds-scratch-two
+slice_read_wrapping_add_u64_2 c = let start = first c.before in omega (arith, start.requires, start.well_formed)
 
-mul-wrapping-add-u64-4 : tie.Need-offset_bounds-planes-mark_two
-mul-wrapping-add-u64-4 c = let start = first c.before in omega (arith, start.requires, start.well_formed)
+mul_wrapping_add_u64_4 : tie.Need-offset_bounds-planes-mark_two
+mul_wrapping_add_u64_4 c = let start = first c.before in omega (arith, start.requires, start.well_formed)
 
-shared-slice-read-wrapping-add-u64-2 : tie.Need-bounds-planes-mark_two
-shared-slice-read-wrapping-add-u64-2 c = let start = first c.before.before in omega (arith, start.requires, start.well_formed)
+shared_slice_read_wrapping_add_u64_2 : tie.Need-bounds-planes-mark_two
+shared_slice_read_wrapping_add_u64_2 c = let start = first c.before.before in omega (arith, start.requires, start.well_formed)
 
-mul-scratch : tie.Need-offset_bounds-scratch-one-2
-mul-scratch c = let start = first c.before.before.before in omega (arith, start.requires, start.well_formed)
+mul_scratch : tie.Need-offset_bounds-scratch-one-2
+mul_scratch c = let start = first c.before.before.before in omega (arith, start.requires, start.well_formed)
 
-slice-write-scratch : tie.Need-bounds-scratch-one-2
-slice-write-scratch c = let start = first c.before.before.before in omega (arith, start.requires, start.well_formed)
+slice_write_scratch : tie.Need-bounds-scratch-one-2
+slice_write_scratch c = let start = first c.before.before.before in omega (arith, start.requires, start.well_formed)
 
-mul-scratch-2 : tie.Need-offset_bounds-scratch-two-2
-mul-scratch-2 c = let start = first c.before.before.before in omega (arith, start.requires, start.well_formed)
+mul_scratch_2 : tie.Need-offset_bounds-scratch-two-2
+mul_scratch_2 c = let start = first c.before.before.before in omega (arith, start.requires, start.well_formed)
 
-slice-write-scratch-2 : tie.Need-bounds-scratch-two-2
-slice-write-scratch-2 c = let start = first c.before.before.before in simp length-set (omega (arith, start.requires))
+slice_write_scratch_2 : tie.Need-bounds-scratch-two-2
+slice_write_scratch_2 c = let start = first c.before.before.before in simp length-set (omega (arith, start.requires))
 
 returns : tie.Need-returns
 returns c =
@@ -57,20 +57,20 @@ pub add_marks_spec : {M : Type 1} → statement M
 add_marks_spec =
     tie.close
     (tie.spec
-    mul-wrapping-add-u64
-    slice-read-wrapping-add-u64
-    mul-wrapping-add-u64-2
-    shared-slice-read-wrapping-add-u64
+    mul_wrapping_add_u64
+    slice_read_wrapping_add_u64
+    mul_wrapping_add_u64_2
+    shared_slice_read_wrapping_add_u64
     (λ c κs. search rules)
-    mul-wrapping-add-u64-3
-    slice-read-wrapping-add-u64-2
-    mul-wrapping-add-u64-4
-    shared-slice-read-wrapping-add-u64-2
+    mul_wrapping_add_u64_3
+    slice_read_wrapping_add_u64_2
+    mul_wrapping_add_u64_4
+    shared_slice_read_wrapping_add_u64_2
     (λ c κs. search rules)
-    mul-scratch
-    slice-write-scratch
-    mul-scratch-2
-    slice-write-scratch-2
+    mul_scratch
+    slice_write_scratch
+    mul_scratch_2
+    slice_write_scratch_2
     (λ c κs. search rules)
     (λ c. search rules)
     returns)

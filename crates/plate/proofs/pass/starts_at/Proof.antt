@@ -8,8 +8,8 @@ use Rattle.plate.proofs.pass.starts_at.Statement.{statement}
 use Rattle.plate.proofs.pass.starts_at.Tie as tie
 
 -- the lines of a row that go 2 rows a column are the first or the second
-row-side : (c : tie.Start) → (c.args.row % 2) * two_lines c.args.channel ≤ two_lines c.args.channel
-row-side c = side_le c.args.row (two_lines c.args.channel)
+row_side : (c : tie.Start) → (c.args.row % 2) * two_lines c.args.channel ≤ two_lines c.args.channel
+row_side c = side_le c.args.row (two_lines c.args.channel)
 
 -- a row's marks are in a plane
 marks_in_fact : (c : tie.Start)
@@ -19,77 +19,77 @@ marks_in_fact c = row_in c.args.row c.args.channel.wide c.args.channel.high c.re
 add_half : tie.Need-overflow_add-half
 add_half c = omega (arith, c.requires)
 
-add-ones : tie.Need-overflow_add-ones
-add-ones c = omega (arith, c.requires)
+add_ones : tie.Need-overflow_add-ones
+add_ones c = omega (arith, c.requires)
 
-add-ones-2 : tie.Need-overflow_add-ones-2
-add-ones-2 c = omega (arith, c.requires)
+add_ones_2 : tie.Need-overflow_add-ones-2
+add_ones_2 c = omega (arith, c.requires)
 
-add-twos : tie.Need-overflow_add-twos
-add-twos c = omega (arith, c.requires)
+add_twos : tie.Need-overflow_add-twos
+add_twos c = omega (arith, c.requires)
 
-mul-side : tie.Need-overflow_mul-side
-mul-side c = omega (arith, c.requires, row-side c)
+mul_side : tie.Need-overflow_mul-side
+mul_side c = omega (arith, c.requires, row_side c)
 
-mul-falling-one : tie.Need-overflow_mul-falling_one
-mul-falling-one c = omega (arith, c.requires)
+mul_falling_one : tie.Need-overflow_mul-falling_one
+mul_falling_one c = omega (arith, c.requires)
 
-add-falling-one : tie.Need-overflow_add-falling_one
-add-falling-one c = omega (arith, c.requires)
+add_falling_one : tie.Need-overflow_add-falling_one
+add_falling_one c = omega (arith, c.requires)
 
-add-falling-two : tie.Need-overflow_add-falling_two
-add-falling-two c = omega (arith, c.requires)
+add_falling_two : tie.Need-overflow_add-falling_two
+add_falling_two c = omega (arith, c.requires)
 
-mul-rising-one : tie.Need-overflow_mul-rising_one
-mul-rising-one c = omega (arith, c.requires)
+mul_rising_one : tie.Need-overflow_mul-rising_one
+mul_rising_one c = omega (arith, c.requires)
 
-add-rising-one : tie.Need-overflow_add-rising_one
-add-rising-one c = omega (arith, c.requires)
+add_rising_one : tie.Need-overflow_add-rising_one
+add_rising_one c = omega (arith, c.requires)
 
-add-rising-two : tie.Need-overflow_add-rising_two
-add-rising-two c = omega (arith, c.requires)
+add_rising_two : tie.Need-overflow_add-rising_two
+add_rising_two c = omega (arith, c.requires)
 
-add-t14 : tie.Need-overflow_add-result
-add-t14 c = omega (arith, c.requires)
+add_t14 : tie.Need-overflow_add-result
+add_t14 c = omega (arith, c.requires)
 
-sub-t15 : tie.Need-overflow_sub-result
-sub-t15 c = omega (arith, c.requires)
+sub_t15 : tie.Need-overflow_sub-result
+sub_t15 c = omega (arith, c.requires)
 
-add-t16 : tie.Need-overflow_add-result-2
-add-t16 c = omega (arith, c.requires)
+add_t16 : tie.Need-overflow_add-result-2
+add_t16 c = omega (arith, c.requires)
 
-add-t17 : tie.Need-overflow_add-result-3
-add-t17 c = omega (arith, c.requires, row-side c)
+add_t17 : tie.Need-overflow_add-result-3
+add_t17 c = omega (arith, c.requires, row_side c)
 
-sub-t19 : tie.Need-overflow_sub-result-2
-sub-t19 c = omega (arith, c.requires)
+sub_t19 : tie.Need-overflow_sub-result-2
+sub_t19 c = omega (arith, c.requires)
 
-add-t20 : tie.Need-overflow_add-result-4
-add-t20 c = omega (arith, c.requires, row-side c)
+add_t20 : tie.Need-overflow_add-result-4
+add_t20 c = omega (arith, c.requires, row_side c)
 
-add-t21 : tie.Need-overflow_add-result-5
-add-t21 c = omega (arith, c.requires)
+add_t21 : tie.Need-overflow_add-result-5
+add_t21 c = omega (arith, c.requires)
 
-add-t22 : tie.Need-overflow_add-result-6
-add-t22 c = omega (arith, c.requires, row-side c)
+add_t22 : tie.Need-overflow_add-result-6
+add_t22 c = omega (arith, c.requires, row_side c)
 
-add-t24 : tie.Need-overflow_add-result-7
-add-t24 c = omega (arith, c.requires, row-side c)
+add_t24 : tie.Need-overflow_add-result-7
+add_t24 c = omega (arith, c.requires, row_side c)
 
-mul-t25 : tie.Need-overflow_mul-result
-mul-t25 c = omega (arith, c.requires)
+mul_t25 : tie.Need-overflow_mul-result
+mul_t25 c = omega (arith, c.requires)
 
-add-t26 : tie.Need-overflow_add-result-8
-add-t26 c = omega (arith, c.requires)
+add_t26 : tie.Need-overflow_add-result-8
+add_t26 c = omega (arith, c.requires)
 
-mul-t27 : tie.Need-overflow_mul-result-2
-mul-t27 c = omega (arith, c.before.requires, marks_in_fact c.before)
+mul_t27 : tie.Need-overflow_mul-result-2
+mul_t27 c = omega (arith, c.before.requires, marks_in_fact c.before)
 
-add-t28 : tie.Need-overflow_add-result-9
-add-t28 c = omega (arith, c.before.before.requires, marks_in_fact c.before.before)
+add_t28 : tie.Need-overflow_add-result-9
+add_t28 c = omega (arith, c.before.before.requires, marks_in_fact c.before.before)
 
-mul-t29 : tie.Need-overflow_mul-result-3
-mul-t29 c = omega (arith, c.before.before.before.requires)
+mul_t29 : tie.Need-overflow_mul-result-3
+mul_t29 c = omega (arith, c.before.before.before.requires)
 
 returns : tie.Need-returns
 unfolding starts_at
@@ -100,28 +100,28 @@ starts_at_spec =
     tie.close
     (tie.spec
     add_half
-    add-ones
-    add-ones-2
-    add-twos
-    mul-side
-    mul-falling-one
-    add-falling-one
-    add-falling-two
-    mul-rising-one
-    add-rising-one
-    add-rising-two
-    add-t14
-    sub-t15
-    add-t16
-    add-t17
-    sub-t19
-    add-t20
-    add-t21
-    add-t22
-    add-t24
-    mul-t25
-    add-t26
-    mul-t27
-    add-t28
-    mul-t29
+    add_ones
+    add_ones_2
+    add_twos
+    mul_side
+    mul_falling_one
+    add_falling_one
+    add_falling_two
+    mul_rising_one
+    add_rising_one
+    add_rising_two
+    add_t14
+    sub_t15
+    add_t16
+    add_t17
+    sub_t19
+    add_t20
+    add_t21
+    add_t22
+    add_t24
+    mul_t25
+    add_t26
+    mul_t27
+    add_t28
+    mul_t29
     returns)

@@ -14,42 +14,42 @@ met m s a b p q x y r lx ly ex ey er =
 abbrev first : tie.After-wrapping_sub_u64 → tie.Start
 first c = c.before.before.before.before.before.before
 
-mul-held-one : tie.Need-offset_bounds-scratch-one
-mul-held-one c = let start = c.before.before in omega (arith, start.requires, start.well_formed)
+mul_held_one : tie.Need-offset_bounds-scratch-one
+mul_held_one c = let start = c.before.before in omega (arith, start.requires, start.well_formed)
 
-slice-read-held-one : tie.Need-bounds-scratch-one
-slice-read-held-one c = let start = c.before.before.before in omega (arith, start.requires, start.well_formed)
+slice_read_held_one : tie.Need-bounds-scratch-one
+slice_read_held_one c = let start = c.before.before.before in omega (arith, start.requires, start.well_formed)
 
-mul-held-two : tie.Need-offset_bounds-scratch-two
-mul-held-two c = let start = c.before.before.before in omega (arith, start.requires, start.well_formed)
+mul_held_two : tie.Need-offset_bounds-scratch-two
+mul_held_two c = let start = c.before.before.before in omega (arith, start.requires, start.well_formed)
 
-slice-read-held-two : tie.Need-bounds-scratch-two
-slice-read-held-two c = let start = c.before.before.before.before in omega (arith, start.requires, start.well_formed)
+slice_read_held_two : tie.Need-bounds-scratch-two
+slice_read_held_two c = let start = c.before.before.before.before in omega (arith, start.requires, start.well_formed)
 
-mul-wrapping-sub-u64 : tie.Need-offset_bounds-planes-mark_one
-mul-wrapping-sub-u64 c = let start = c.before.before.before.before in omega (arith, start.requires, start.well_formed)
+mul_wrapping_sub_u64 : tie.Need-offset_bounds-planes-mark_one
+mul_wrapping_sub_u64 c = let start = c.before.before.before.before in omega (arith, start.requires, start.well_formed)
 
-shared-slice-read-wrapping-sub-u64 : tie.Need-bounds-planes-mark_one
-shared-slice-read-wrapping-sub-u64 c = let start =
+shared_slice_read_wrapping_sub_u64 : tie.Need-bounds-planes-mark_one
+shared_slice_read_wrapping_sub_u64 c = let start =
     c.before.before.before.before.before in omega (arith, start.requires, start.well_formed)
 
-mul-scratch : tie.Need-offset_bounds-scratch-one-2
-mul-scratch c = let start = first c in omega (arith, start.requires, start.well_formed)
+mul_scratch : tie.Need-offset_bounds-scratch-one-2
+mul_scratch c = let start = first c in omega (arith, start.requires, start.well_formed)
 
-slice-write-scratch : tie.Need-bounds-scratch-one-2
-slice-write-scratch c = let start = first c in omega (arith, start.requires, start.well_formed)
+slice_write_scratch : tie.Need-bounds-scratch-one-2
+slice_write_scratch c = let start = first c in omega (arith, start.requires, start.well_formed)
 
-mul-wrapping-sub-u64-2 : tie.Need-offset_bounds-planes-mark_two
-mul-wrapping-sub-u64-2 c = let start = first c in omega (arith, start.requires, start.well_formed)
+mul_wrapping_sub_u64_2 : tie.Need-offset_bounds-planes-mark_two
+mul_wrapping_sub_u64_2 c = let start = first c in omega (arith, start.requires, start.well_formed)
 
-shared-slice-read-wrapping-sub-u64-2 : tie.Need-bounds-planes-mark_two
-shared-slice-read-wrapping-sub-u64-2 c = let start = first c.before in omega (arith, start.requires, start.well_formed)
+shared_slice_read_wrapping_sub_u64_2 : tie.Need-bounds-planes-mark_two
+shared_slice_read_wrapping_sub_u64_2 c = let start = first c.before in omega (arith, start.requires, start.well_formed)
 
-mul-scratch-2 : tie.Need-offset_bounds-scratch-two-2
-mul-scratch-2 c = let start = first c.before.before in omega (arith, start.requires, start.well_formed)
+mul_scratch_2 : tie.Need-offset_bounds-scratch-two-2
+mul_scratch_2 c = let start = first c.before.before in omega (arith, start.requires, start.well_formed)
 
-slice-write-scratch-2 : tie.Need-bounds-scratch-two-2
-slice-write-scratch-2 c = let start = first c.before.before in simp length-set (omega (arith, start.requires))
+slice_write_scratch_2 : tie.Need-bounds-scratch-two-2
+slice_write_scratch_2 c = let start = first c.before.before in simp length-set (omega (arith, start.requires))
 
 returns : tie.Need-returns
 returns c =
@@ -62,20 +62,20 @@ pub take_marks_off_spec : {M : Type 1} → statement M
 take_marks_off_spec =
     tie.close
     (tie.spec
-    mul-held-one
-    slice-read-held-one
-    mul-held-two
-    slice-read-held-two
-    mul-wrapping-sub-u64
-    shared-slice-read-wrapping-sub-u64
+    mul_held_one
+    slice_read_held_one
+    mul_held_two
+    slice_read_held_two
+    mul_wrapping_sub_u64
+    shared_slice_read_wrapping_sub_u64
     (λ c κs. search rules)
-    mul-scratch
-    slice-write-scratch
-    mul-wrapping-sub-u64-2
-    shared-slice-read-wrapping-sub-u64-2
+    mul_scratch
+    slice_write_scratch
+    mul_wrapping_sub_u64_2
+    shared_slice_read_wrapping_sub_u64_2
     (λ c κs. search rules)
-    mul-scratch-2
-    slice-write-scratch-2
+    mul_scratch_2
+    slice_write_scratch_2
     (λ c κs. search rules)
     (λ c. search rules)
     returns)

@@ -11,27 +11,27 @@ start c = c.before.before.before.before.before
 abbrev packed : tie.After-exchange-marks → tie.After-pack_entry
 packed c = c.before.before.before.before
 
-mul-pack-entry : tie.Need-offset_bounds-pixels-place
-mul-pack-entry c = omega (arith, c.before.before.before.requires.place_small)
+mul_pack_entry : tie.Need-offset_bounds-pixels-place
+mul_pack_entry c = omega (arith, c.before.before.before.requires.place_small)
 
-slice-read-pack-entry : tie.Need-bounds-pixels-place
-slice-read-pack-entry c = c.before.before.before.before.requires.place_in
+slice_read_pack_entry : tie.Need-bounds-pixels-place
+slice_read_pack_entry c = c.before.before.before.before.requires.place_in
 
-pack-entry-requires : tie.Need-pack_entry-requires
-pack-entry-requires c κs = let h = c.before.before.before.before.requires in (h.word_small, h.place_small)
+pack_entry_requires : tie.Need-pack_entry-requires
+pack_entry_requires c κs = let h = c.before.before.before.before.requires in (h.word_small, h.place_small)
 
-mul-log : tie.Need-offset_bounds-log-count
-mul-log c = let s = start c in omega (arith, s.requires.has_room, s.well_formed)
+mul_log : tie.Need-offset_bounds-log-count
+mul_log c = let s = start c in omega (arith, s.requires.has_room, s.well_formed)
 
-slice-write-log : tie.Need-bounds-log-count
-slice-write-log c = (start c).requires.has_room
+slice_write_log : tie.Need-bounds-log-count
+slice_write_log c = (start c).requires.has_room
 
-exchange-requires : tie.Need-exchange-marks-requires
-exchange-requires c κs =
+exchange_requires : tie.Need-exchange-marks-requires
+exchange_requires c κs =
     let h = (start c.before.before.before).requires in (h.changeable, h.place_in)
 
-add-accepted : tie.Need-overflow_add-count
-add-accepted c =
+add_accepted : tie.Need-overflow_add-count
+add_accepted c =
     let s = start (packed c.before.before.before.before) in omega (arith, s.requires.has_room, s.well_formed)
 
 returns : tie.Need-returns
@@ -45,13 +45,13 @@ pub log_and_exchange_spec : {M : Type 1} → statement M
 log_and_exchange_spec =
     tie.close
     (tie.spec
-    mul-pack-entry
-    slice-read-pack-entry
-    pack-entry-requires
-    mul-log
-    slice-write-log
-    exchange-requires
-    add-accepted
+    mul_pack_entry
+    slice_read_pack_entry
+    pack_entry_requires
+    mul_log
+    slice_write_log
+    exchange_requires
+    add_accepted
     (λ c κs. search rules)
     (λ c. search rules)
     (λ c. search rules)

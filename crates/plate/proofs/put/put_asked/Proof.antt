@@ -21,8 +21,8 @@ reads : (c : tie.In-ToChange)
     put_read s.args.state s.args.ask (lengths_of (held s)) (held s).pixels ≡ ToChange c.in-ToChange.change
 reads c = sym c.before.read_put.ensures ∙ c.in-ToChange.is
 
-log-and-exchange-requires : tie.Need-log_and_exchange-requires
-log-and-exchange-requires c κs =
+log_and_exchange_requires : tie.Need-log_and_exchange-requires
+log_and_exchange_requires c κs =
     let change = c.before.before.before in
     put_ready _ _ _ (omega (arith, (start change.before).well_formed)) _ (reads change)
 
@@ -33,9 +33,9 @@ returns c =
     let change = made.before.before.before.before in
     rw (reads change) made.log_and_exchange.ensures
 
-returns-2 : tie.Need-returns-in-NoChange
+returns_2 : tie.Need-returns-in-NoChange
 unfolding put_call put_by
-returns-2 c =
+returns_2 c =
     let told = c.before in
     rw (c.refused.ensures, ← told.before.read_put.ensures, told.in-NoChange.is)
 
@@ -45,7 +45,7 @@ put_asked_spec =
     (tie.spec
     (λ c κs. search rules)
     (λ c. search rules)
-    log-and-exchange-requires
+    log_and_exchange_requires
     (λ c. search rules)
     (λ c κs. search rules)
     (λ c. search rules)
@@ -53,4 +53,4 @@ put_asked_spec =
     (λ c. search rules)
     returns
     (λ c. search rules)
-    returns-2)
+    returns_2)

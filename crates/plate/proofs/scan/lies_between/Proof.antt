@@ -9,9 +9,9 @@ returns : tie.Need-returns-then-depth-above
 unfolding is_between
 returns c = (search tests, omega arith)
 
-returns-2 : tie.Need-returns
+returns_2 : tie.Need-returns
 unfolding is_between
-returns-2 c = (search tests, omega arith)
+returns_2 c = (search tests, omega arith)
 
 pub lies_between_spec : {M : Type 1} → statement M
-lies_between_spec = tie.close (tie.spec returns returns-2)
+lies_between_spec = tie.close (tie.spec returns returns_2)

@@ -7,8 +7,8 @@ use Rattle.plate.proofs.show.lay_both.Tie as tie
 abbrev start : tie.After-matte_after-matte → tie.Start
 start c = c.before.before.before
 
-start-sums-requires-2 : tie.Need-start_sums-requires-2
-start-sums-requires-2 c κs =
+start_sums_requires_2 : tie.Need-start_sums-requires-2
+start_sums_requires_2 c κs =
     let one = c.before.before.before in
     let made = one.before.before in
     rw made.matte_after-matte.ensures (matte_in _ _ _ (start made).requires _ one.start_sums.ensures.only.same)
@@ -24,4 +24,4 @@ returns c =
 pub lay_both_spec : {M : Type 1} → statement M
 lay_both_spec =
     tie.close
-    (tie.spec (λ c κs. search rules) (λ c κs. search rules) start-sums-requires-2 (λ c. search rules) returns)
+    (tie.spec (λ c κs. search rules) (λ c κs. search rules) start_sums_requires_2 (λ c. search rules) returns)

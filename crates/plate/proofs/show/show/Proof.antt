@@ -22,12 +22,12 @@ returns : tie.Need-returns-in_default
 unfolding show_call show_by
 returns c = let told = c.in_default.is in rw (told, sym c.before.check_show-outcome.ensures ∙ told)
 
-show-all-requires : tie.Need-show_all-requires
-show-all-requires c κs = show_ready _ _ _ _ _ (passed c.before.before.before)
+show_all_requires : tie.Need-show_all-requires
+show_all_requires c κs = show_ready _ _ _ _ _ (passed c.before.before.before)
 
-returns-2 : tie.Need-returns
+returns_2 : tie.Need-returns
 unfolding show_call
-returns-2 c =
+returns_2 c =
     let done = c.before.before.before.before.before.before in
     done.show_all.ensures ∙ rw (passed done.before.before.before.before)
 
@@ -39,8 +39,8 @@ show_spec =
     (λ c. search rules)
     (λ c. search rules)
     returns
-    show-all-requires
+    show_all_requires
     (λ c. search rules)
     (λ c. search rules)
     (λ c. search rules)
-    returns-2)
+    returns_2)

@@ -14,20 +14,20 @@ fits : (c : tie.After-light_channel-light)
     → BothIn c.light_channel-light.result (start c).args.scratch.now (start c).args.planes.now
 fits c = ready_both _ _ _ _ c.light_channel-light.ensures (start c).requires.sums
 
-light-channel-requires : tie.Need-light_channel-light-requires
-light-channel-requires c κs = c.before.before.before.before.before.requires.sums.lawful
+light_channel_requires : tie.Need-light_channel-light-requires
+light_channel_requires c κs = c.before.before.before.before.before.requires.sums.lawful
 
-add-t9 : tie.Need-overflow_add-image
-add-t9 c = omega (arith, (start c.before).requires.sums.lawful.reach_top_fact)
+add_t9 : tie.Need-overflow_add-image
+add_t9 c = omega (arith, (start c.before).requires.sums.lawful.reach_top_fact)
 
-sum-above-requires : tie.Need-sum_above-requires
-sum-above-requires c κs =
+sum_above_requires : tie.Need-sum_above-requires
+sum_above_requires c κs =
     let made = c.before.before in
     let high = ap (λ (p : Channel). p.high) made.light_channel-light.ensures in
     record { fits = fits made; low = omega (arith, high, (start made).requires) }
 
-show-rows-requires : tie.Need-show_rows-requires
-show-rows-requires c κs =
+show_rows_requires : tie.Need-show_rows-requires
+show_rows_requires c κs =
     let summed = c.before.before.before.before.before in
     let made = summed.before.before.before in
     let columns = ap (λ (p : Channel). p.columns) made.light_channel-light.ensures in
@@ -59,10 +59,10 @@ pub show_all_spec : {M : Type 1} → statement M
 show_all_spec =
     tie.close
     (tie.spec
-    light-channel-requires
-    add-t9
-    sum-above-requires
-    show-rows-requires
+    light_channel_requires
+    add_t9
+    sum_above_requires
+    show_rows_requires
     (λ c κs. search rules)
     (λ c. search rules)
     (λ c. search rules)

@@ -5,26 +5,26 @@ use Rattle.plate.proofs.Laws.Showing.BothChannels.{both_on}
 use Rattle.plate.proofs.show.sum_above.Statement.{statement}
 use Rattle.plate.proofs.show.sum_above.Tie as tie
 
-abbrev invariant-loop : tie.invariant-loop-row
-invariant-loop scratch₀ planes light rows row₀ scratch row = (row ≤ rows) × BothSummed light planes scratch₀ scratch row
+abbrev invariant_loop : tie.invariant-loop-row
+invariant_loop scratch₀ planes light rows row₀ scratch row = (row ≤ rows) × BothSummed light planes scratch₀ scratch row
 
-abbrev decreases-loop : tie.decreases-loop-row
-decreases-loop scratch₀ planes light rows row₀ scratch row = rows - row
+abbrev decreases_loop : tie.decreases-loop-row
+decreases_loop scratch₀ planes light rows row₀ scratch row = rows - row
 
-abbrev laid : tie.At-loop-row invariant-loop decreases-loop → tie.After-lay_both invariant-loop decreases-loop
+abbrev laid : tie.At-loop-row invariant_loop decreases_loop → tie.After-lay_both invariant_loop decreases_loop
 laid c = c.before.before.before
 
-abbrev start : tie.After-lay_both invariant-loop decreases-loop → tie.Start invariant-loop decreases-loop
+abbrev start : tie.After-lay_both invariant_loop decreases_loop → tie.Start invariant_loop decreases_loop
 start c = c.before.before.before.before
 
-lay-both-requires : tie.Need-lay_both-requires invariant-loop decreases-loop
-lay-both-requires c κs = c.before.before.before.requires.fits
+lay_both_requires : tie.Need-lay_both-requires invariant_loop decreases_loop
+lay_both_requires c κs = c.before.before.before.requires.fits
 
-loop-holds : tie.Need-loop-row-init invariant-loop decreases-loop
-loop-holds c = (search rules, record { same = refl; to = c.before.before.lay_both.ensures.to })
+loop_holds : tie.Need-loop-row-init invariant_loop decreases_loop
+loop_holds c = (search rules, record { same = refl; to = c.before.before.lay_both.ensures.to })
 
-sum-both-requires : tie.Need-sum_both-requires invariant-loop decreases-loop
-sum-both-requires c κs =
+sum_both_requires : tie.Need-sum_both-requires invariant_loop decreases_loop
+sum_both_requires c κs =
     let iteration = c.before.before in
     let pre = (start (laid iteration)).requires in
     let sums = iteration.loop-row.invariant.1 in
@@ -34,22 +34,22 @@ sum-both-requires c κs =
       to = sums.to;
     }
 
-add_row : tie.Need-overflow_step-row invariant-loop decreases-loop
+add_row : tie.Need-overflow_step-row invariant_loop decreases_loop
 add_row c =
     let test = c.before.before.before.before in
     omega (arith, test.loop-row-test.true, (start (laid test.before)).well_formed)
 
-loop-less : tie.Need-loop-row-smaller invariant-loop decreases-loop
-loop-less c = omega (arith, c.before.before.before.before.loop-row-test.true)
+loop_less : tie.Need-loop-row-smaller invariant_loop decreases_loop
+loop_less c = omega (arith, c.before.before.before.before.loop-row-test.true)
 
-loop-again : tie.Need-loop-row-preserved invariant-loop decreases-loop
-loop-again c =
+loop_again : tie.Need-loop-row-preserved invariant_loop decreases_loop
+loop_again c =
     let summed = c.before.before in
     let test = summed.before.before in
     let sums = summed.sum_both.ensures in
     (omega (arith, test.loop-row-test.true), record { same = sums.same ∙ test.before.loop-row.invariant.1.same; to = sums.to })
 
-returns : tie.Need-returns invariant-loop decreases-loop
+returns : tie.Need-returns invariant_loop decreases_loop
 returns c =
     let iteration = c.before in
     let e : iteration.loop-row.row ≡ (start (laid iteration)).args.rows = omega arith in
@@ -60,13 +60,13 @@ pub sum_above_spec : {M : Type 1} → statement M
 sum_above_spec =
     tie.close
     (tie.spec
-    invariant-loop
-    decreases-loop
-    lay-both-requires
-    loop-holds
-    sum-both-requires
+    invariant_loop
+    decreases_loop
+    lay_both_requires
+    loop_holds
+    sum_both_requires
     add_row
-    loop-less
-    loop-again
+    loop_less
+    loop_again
     (λ c. search rules)
     returns)

@@ -4,13 +4,13 @@ use Rattle.plate.proofs.Laws.Showing.BothChannels.{light_in, matte_in, matte_kep
 use Rattle.plate.proofs.show.sum_both.Statement.{statement}
 use Rattle.plate.proofs.show.sum_both.Tie as tie
 
-sum-next-requires : tie.Need-sum_next-requires
-sum-next-requires c κs =
+sum_next_requires : tie.Need-sum_next-requires
+sum_next_requires c κs =
     let start = c.before.before.before.before in
     record { fits = light_in _ _ _ start.requires.fits; low = start.requires.low; to = start.requires.to.light_to }
 
-sum-next-requires-2 : tie.Need-sum_next-requires-2
-sum-next-requires-2 c κs =
+sum_next_requires_2 : tie.Need-sum_next-requires-2
+sum_next_requires_2 c κs =
     let one = c.before.before.before in
     let made = one.before.before in
     let start = made.before.before.before in
@@ -32,4 +32,4 @@ returns c =
 pub sum_both_spec : {M : Type 1} → statement M
 sum_both_spec =
     tie.close
-    (tie.spec (λ c κs. search rules) sum-next-requires sum-next-requires-2 (λ c. search rules) returns)
+    (tie.spec (λ c κs. search rules) sum_next_requires sum_next_requires_2 (λ c. search rules) returns)

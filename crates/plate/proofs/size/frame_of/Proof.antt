@@ -4,8 +4,8 @@ use Rattle.plate_model.proofs.Numbers.Extents.{padded_small}
 use Rattle.plate.proofs.size.frame_of.Statement.{statement}
 use Rattle.plate.proofs.size.frame_of.Tie as tie
 
-mul-t4 : tie.Need-overflow_mul-result
-mul-t4 c =
+mul_t4 : tie.Need-overflow_mul-result
+mul_t4 c =
     let s = c.before.before.before.before in
     omega (arith, padded_small s.args.size s.requires)
 
@@ -13,4 +13,4 @@ pub frame_of_spec : {M : Type 1} → statement M
 frame_of_spec =
     tie.close
     (tie.spec (λ c. search rules) (λ c. search rules) (λ c. search rules) (λ c. search rules) (λ c. search rules)
-    (λ c. search rules) mul-t4 (λ c. search rules) (λ c. search rules))
+    (λ c. search rules) mul_t4 (λ c. search rules) (λ c. search rules))

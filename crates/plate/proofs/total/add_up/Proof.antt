@@ -9,36 +9,36 @@ use Rattle.plate.proofs.Laws.Showing.Totals.{added_start, added_next}
 use Rattle.plate.proofs.total.add_up.Statement.{statement}
 use Rattle.plate.proofs.total.add_up.Tie as tie
 
-abbrev invariant-loop : tie.invariant-loop-row
-invariant-loop scratch₀ planes marks columns high channel down sum₀ row₀ scratch sum row =
+abbrev invariant_loop : tie.invariant-loop-row
+invariant_loop scratch₀ planes marks columns high channel down sum₀ row₀ scratch sum row =
     (row ≤ high) × (AddedUp channel planes scratch₀ scratch row sum × SummedTo channel planes scratch row)
 
-abbrev decreases-loop : tie.decreases-loop-row
-decreases-loop scratch₀ planes marks columns high channel down sum₀ row₀ scratch sum row = high - row
+abbrev decreases_loop : tie.decreases-loop-row
+decreases_loop scratch₀ planes marks columns high channel down sum₀ row₀ scratch sum row = high - row
 
-abbrev laid : tie.After-starts_at-starts invariant-loop decreases-loop → tie.After-start_sums invariant-loop decreases-loop
+abbrev laid : tie.After-starts_at-starts invariant_loop decreases_loop → tie.After-start_sums invariant_loop decreases_loop
 laid c = c.before.before.before
 
-abbrev start : tie.After-starts_at-starts invariant-loop decreases-loop → tie.Start invariant-loop decreases-loop
+abbrev start : tie.After-starts_at-starts invariant_loop decreases_loop → tie.Start invariant_loop decreases_loop
 start c = (laid c).before.before.before.before
 
-abbrev channel : tie.After-starts_at-starts invariant-loop decreases-loop → Channel
+abbrev channel : tie.After-starts_at-starts invariant_loop decreases_loop → Channel
 channel c = whole_channel (start c).args.frame (start c).args.marks
 
 -- where the finished cells of a row lie
-down_is : (c : tie.After-starts_at-starts invariant-loop decreases-loop) → c.starts_at-starts.result.down ≡ down_from (channel c)
+down_is : (c : tie.After-starts_at-starts invariant_loop decreases_loop) → c.starts_at-starts.result.down ≡ down_from (channel c)
 unfolding starts_at
 down_is c = ap (λ (s : Starts). s.down) c.starts_at-starts.ensures
 
 -- the scratch is as long as it was
-same_as : (c : tie.At-loop-row invariant-loop decreases-loop) → length c.loop-row.scratch ≡ length (start c.before).args.scratch.now
+same_as : (c : tie.At-loop-row invariant_loop decreases_loop) → length c.loop-row.scratch ≡ length (start c.before).args.scratch.now
 same_as c = c.loop-row.invariant.1.0.same ∙ (laid c.before).start_sums.ensures.only.same
 
-loop-holds : tie.Need-loop-row-init invariant-loop decreases-loop
-loop-holds c = (search rules, (added_start _ _ _, (laid c).start_sums.ensures.to))
+loop_holds : tie.Need-loop-row-init invariant_loop decreases_loop
+loop_holds c = (search rules, (added_start _ _ _, (laid c).start_sums.ensures.to))
 
-sum-next-requires : tie.Need-sum_next-requires invariant-loop decreases-loop
-sum-next-requires c κs =
+sum_next_requires : tie.Need-sum_next-requires invariant_loop decreases_loop
+sum_next_requires c κs =
     let iteration = c.before.before in
     record {
       fits = channel_on _ _ _ (start iteration.before).requires _ (same_as iteration);
@@ -46,8 +46,8 @@ sum-next-requires c κs =
       to = iteration.loop-row.invariant.1.1;
     }
 
-add-cells-requires : tie.Need-add_cells-sum-requires invariant-loop decreases-loop
-add-cells-requires c κs =
+add_cells_requires : tie.Need-add_cells-sum-requires invariant_loop decreases_loop
+add_cells_requires c κs =
     let summed = c.before.before in
     let iteration = summed.before.before.before in
     omega (
@@ -58,16 +58,16 @@ add-cells-requires c κs =
       (start iteration.before).requires.sums_in,
     )
 
-add_row : tie.Need-overflow_step-row invariant-loop decreases-loop
+add_row : tie.Need-overflow_step-row invariant_loop decreases_loop
 add_row c =
     let test = c.before.before.before.before.before in
     omega (arith, test.loop-row-test.true, (start test.before.before).well_formed)
 
-loop-less : tie.Need-loop-row-smaller invariant-loop decreases-loop
-loop-less c = omega (arith, c.before.before.before.before.before.loop-row-test.true)
+loop_less : tie.Need-loop-row-smaller invariant_loop decreases_loop
+loop_less c = omega (arith, c.before.before.before.before.before.loop-row-test.true)
 
-loop-again : tie.Need-loop-row-preserved invariant-loop decreases-loop
-loop-again c =
+loop_again : tie.Need-loop-row-preserved invariant_loop decreases_loop
+loop_again c =
     let summed = c.before.before.before in
     let test = summed.before.before in
     let iteration = test.before in
@@ -81,10 +81,10 @@ loop-again c =
       ),
     )
 
-same_length : tie.Need-shape_of-scratch invariant-loop decreases-loop
+same_length : tie.Need-shape_of-scratch invariant_loop decreases_loop
 same_length c = same_as c.before
 
-returns : tie.Need-returns invariant-loop decreases-loop
+returns : tie.Need-returns invariant_loop decreases_loop
 returns c =
     let iteration = c.before in
     let e : iteration.loop-row.row ≡ (start iteration.before).args.frame.high = omega arith in
@@ -95,15 +95,15 @@ pub add_up_spec : {M : Type 1} → statement M
 add_up_spec =
     tie.close
     (tie.spec
-    invariant-loop
-    decreases-loop
+    invariant_loop
+    decreases_loop
     (λ c κs. search rules)
     (λ c κs. search rules)
-    loop-holds
-    sum-next-requires
-    add-cells-requires
+    loop_holds
+    sum_next_requires
+    add_cells_requires
     add_row
-    loop-less
-    loop-again
+    loop_less
+    loop_again
     same_length
     returns)

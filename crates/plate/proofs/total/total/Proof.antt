@@ -20,17 +20,17 @@ returns : tie.Need-returns-in_default
 unfolding total_call total_by
 returns c = let told = c.in_default.is in rw (told, sym c.before.check_total-outcome.ensures ∙ told)
 
-total-all-requires : tie.Need-total_all-requires
-total-all-requires c κs = total_ready _ _ _ (passed c.before)
+total_all_requires : tie.Need-total_all-requires
+total_all_requires c κs = total_ready _ _ _ (passed c.before)
 
-returns-2 : tie.Need-returns
+returns_2 : tie.Need-returns
 unfolding total_call
-returns-2 c =
+returns_2 c =
     let done = c.before.before in
     done.total_all.ensures ∙ rw (passed done.before.before)
 
 pub total_spec : {M : Type 1} → statement M
 total_spec =
     tie.close
-    (tie.spec (λ c κs. search rules) (λ c. search rules) (λ c. search rules) returns total-all-requires
-    (λ c. search rules) returns-2)
+    (tie.spec (λ c κs. search rules) (λ c. search rules) (λ c. search rules) returns total_all_requires
+    (λ c. search rules) returns_2)

@@ -13,32 +13,32 @@ abbrev start : tie.After-frame_of-frame → tie.Start
 start c = c.before.before.before.before
 
 -- where light's marks start, and where matte's do
-light-from : (c : tie.After-frame_of-frame) → 0 ≡ 0 * padded (start c).args.state.size
-light-from c = omega arith
+light_from : (c : tie.After-frame_of-frame) → 0 ≡ 0 * padded (start c).args.state.size
+light_from c = omega arith
 
-matte-from : (c : tie.After-frame_of-frame)
+matte_from : (c : tie.After-frame_of-frame)
     → planes_each * c.frame_of-frame.result.padded ≡ planes_each * padded (start c).args.state.size
-matte-from c = ap (λ (f : Frame). planes_each * f.padded) c.frame_of-frame.ensures
+matte_from c = ap (λ (f : Frame). planes_each * f.padded) c.frame_of-frame.ensures
 
-frame-of-requires : tie.Need-frame_of-frame-requires
-frame-of-requires c κs = c.before.before.requires.lawful
+frame_of_requires : tie.Need-frame_of-frame-requires
+frame_of_requires c κs = c.before.before.requires.lawful
 
-add-up-requires : tie.Need-add_up-light-requires
-add-up-requires c κs =
+add_up_requires : tie.Need-add_up-light-requires
+add_up_requires c κs =
     let framed = c.before in
-    ready_whole _ _ _ 0 _ _ (omega arith) (start framed).requires framed.frame_of-frame.ensures (light-from framed)
+    ready_whole _ _ _ 0 _ _ (omega arith) (start framed).requires framed.frame_of-frame.ensures (light_from framed)
 
-mul-add-up : tie.Need-overflow_mul-frame
-mul-add-up c =
+mul_add_up : tie.Need-overflow_mul-frame
+mul_add_up c =
     let framed = c.before.before.before.before.before.before in
-    omega (arith, matte-from framed, padded_small (start framed).args.state.size (start framed).requires.lawful)
+    omega (arith, matte_from framed, padded_small (start framed).args.state.size (start framed).requires.lawful)
 
-add-up-requires-2 : tie.Need-add_up-matte-requires
-add-up-requires-2 c κs =
+add_up_requires_2 : tie.Need-add_up-matte-requires
+add_up_requires_2 c κs =
     let one = c.before.before.before.before in
     let framed = one.before.before in
     channel_on _ _ _
-    (ready_whole _ _ _ planes_each _ _ (omega arith) (start framed).requires framed.frame_of-frame.ensures (matte-from framed)) _
+    (ready_whole _ _ _ planes_each _ _ (omega arith) (start framed).requires framed.frame_of-frame.ensures (matte_from framed)) _
     one.add_up-light.ensures.same
 
 returns : tie.Need-returns
@@ -50,10 +50,10 @@ returns c =
     all_totalled (start framed).args.state _ _ two.add_up-matte.new.scratch _ _ _
     (two.add_up-matte.ensures.same ∙ one.add_up-light.ensures.same)
     cleared.clear.ensures
-    (held_is _ _ _ _ planes_each _ _ _ framed.frame_of-frame.ensures (matte-from framed) two.add_up-matte.ensures)
-    (held_is _ _ _ _ 0 _ _ _ framed.frame_of-frame.ensures (light-from framed) one.add_up-light.ensures)
+    (held_is _ _ _ _ planes_each _ _ _ framed.frame_of-frame.ensures (matte_from framed) two.add_up-matte.ensures)
+    (held_is _ _ _ _ 0 _ _ _ framed.frame_of-frame.ensures (light_from framed) one.add_up-light.ensures)
 
 pub total_all_spec : {M : Type 1} → statement M
 total_all_spec =
     tie.close
-    (tie.spec frame-of-requires add-up-requires mul-add-up add-up-requires-2 (λ c κs. search rules) (λ c. search rules) returns)
+    (tie.spec frame_of_requires add_up_requires mul_add_up add_up_requires_2 (λ c κs. search rules) (λ c. search rules) returns)

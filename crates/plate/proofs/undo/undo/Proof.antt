@@ -21,8 +21,8 @@ reads : (c : tie.In-ToChange)
     undo_read s.args.state (lengths_of (held s)) (held s).pixels (held s).log ≡ ToChange c.in-ToChange.change
 reads c = sym c.before.read_undo.ensures ∙ c.in-ToChange.is
 
-unlog-and-exchange-requires : tie.Need-unlog_and_exchange-requires
-unlog-and-exchange-requires c κs = undo_ready _ _ _ (reads c.before.before.before)
+unlog_and_exchange_requires : tie.Need-unlog_and_exchange-requires
+unlog_and_exchange_requires c κs = undo_ready _ _ _ (reads c.before.before.before)
 
 returns : tie.Need-returns-in-ToChange
 unfolding undo_call
@@ -31,9 +31,9 @@ returns c =
     let change = made.before.before.before.before in
     rw (reads change) made.unlog_and_exchange.ensures
 
-returns-2 : tie.Need-returns-in-NoChange
+returns_2 : tie.Need-returns-in-NoChange
 unfolding undo_call undo_by
-returns-2 c =
+returns_2 c =
     let told = c.before in
     rw (c.refused.ensures, ← told.before.read_undo.ensures, told.in-NoChange.is)
 
@@ -43,7 +43,7 @@ undo_spec =
     (tie.spec
     (λ c κs. search rules)
     (λ c. search rules)
-    unlog-and-exchange-requires
+    unlog_and_exchange_requires
     (λ c. search rules)
     (λ c κs. search rules)
     (λ c. search rules)
@@ -52,4 +52,4 @@ undo_spec =
     returns
     (λ c. search rules)
     (λ c. search rules)
-    returns-2)
+    returns_2)

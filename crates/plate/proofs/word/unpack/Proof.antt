@@ -23,31 +23,31 @@ returns : tie.Need-returns-then-word-ne0
 unfolding read_word
 returns c = rw (le-leb (2 ^ word_bits) c.before.args.word (omega arith))
 
-cast-shape-of : tie.Need-overflow_cast-word
-cast-shape-of c = Fits-mask (c.before.args.word / 1048576) 4 tt
+cast_shape_of : tie.Need-overflow_cast-word
+cast_shape_of c = Fits-mask (c.before.args.word / 1048576) 4 tt
 
-returns-2 : tie.Need-returns-in_default
-returns-2 c =
+returns_2 : tie.Need-returns-in_default
+returns_2 c =
     sym
     (low_word _ _ Unknown (omega arith) (sym (shape_read_lem _ _ c.before.shape_of.ensures) ∙ c.in_default.is))
 
-cast-radius : tie.Need-overflow_cast-radius
-cast-radius c = Fits-mask ((start c).args.word / 16777216) 8 tt
+cast_radius : tie.Need-overflow_cast-radius
+cast_radius c = Fits-mask ((start c).args.word / 16777216) 8 tt
 
-returns-3 : tie.Need-returns-then-top_under-radius
-returns-3 c =
+returns_3 : tie.Need-returns-then-top_under-radius
+returns_3 c =
     let shaped = c.before.before in
     let w = (start shaped).args.word in
     rw (known shaped, ← c.before.top_under.ensures, ← and_mask (w / 2 ^ 24) 8, lt-ltb _ _ c.if-top_under-radius.true)
 
-cast-t10 : tie.Need-overflow_cast-result
-cast-t10 c = Fits-mask (start c.before.before).args.word 12 tt
+cast_t10 : tie.Need-overflow_cast-result
+cast_t10 c = Fits-mask (start c.before.before).args.word 12 tt
 
-cast-t9 : tie.Need-overflow_cast-result-2
-cast-t9 c = Fits-mask ((start c.before.before).args.word / 4096) 8 tt
+cast_t9 : tie.Need-overflow_cast-result-2
+cast_t9 c = Fits-mask ((start c.before.before).args.word / 4096) 8 tt
 
-returns-4 : tie.Need-returns
-returns-4 c =
+returns_4 : tie.Need-returns
+returns_4 c =
     let shaped = c.before.before in
     let w = (start shaped).args.word in
     rw (
@@ -64,14 +64,14 @@ unpack_spec =
     tie.close
     (tie.spec
     returns
-    cast-shape-of
+    cast_shape_of
     (λ c κs. search rules)
     (λ c. search rules)
     (λ c. search rules)
-    returns-2
-    cast-radius
+    returns_2
+    cast_radius
     (λ c κs. search rules)
-    returns-3
-    cast-t10
-    cast-t9
-    returns-4)
+    returns_3
+    cast_t10
+    cast_t9
+    returns_4)

@@ -19,13 +19,13 @@ held s =
     let a = s.args in
     buffers a.planes.now a.pixels.now a.log.now a.scratch.now a.values.now a.mattes.now
 
-reply-requires : tie.Need-reply-written-requires
-reply-requires c κs =
+reply_requires : tie.Need-reply-written-requires
+reply_requires c κs =
     let done = c.before in
     record { out_room = (start (took done)).requires.fits; few_cells = done.perform-effect.ensures.few_cells }
 
-add-t29 : tie.Need-overflow_add-result
-add-t29 c =
+add_t29 : tie.Need-overflow_add-result
+add_t29 c =
     let s = start (took c.before.before.before.before.before.before) in
     omega (arith, s.requires.counted)
 
@@ -43,8 +43,8 @@ feed_spec =
     (tie.spec
     (λ c κs. search rules)
     (λ c κs. search rules)
-    reply-requires
+    reply_requires
     (λ c κs. search rules)
-    add-t29
+    add_t29
     (λ c. search rules)
     returns)

@@ -15,17 +15,17 @@ returns : tie.Need-returns-then-m-ge18446744073709551615
 unfolding begun_of
 returns c = let m = c.before.before.before.args.m in rw (le-ltb m.count (2 ^ 64 - 1) (omega arith))
 
-returns-2 : tie.Need-returns-in-Bytes
+returns_2 : tie.Need-returns-in-Bytes
 unfolding begun_of begun_by
-returns-2 c =
+returns_2 c =
     let known = c.before.before in
     let m = (start known).args.m in
     rw (lt-ltb m.count (2 ^ 64 - 1) (omega arith), ← known.body_length.ensures, c.before.in-Bytes.is)
     c.settled.ensures
 
-returns-3 : tie.Need-returns-in-NoKind
+returns_3 : tie.Need-returns-in-NoKind
 unfolding begun_of begun_by
-returns-3 c =
+returns_3 c =
     let m = (start c.before).args.m in
     rw (lt-ltb m.count (2 ^ 64 - 1) (omega arith), ← c.before.body_length.ensures, c.in-NoKind.is)
 
@@ -39,5 +39,5 @@ begun_spec =
     (λ c. search rules)
     (λ c κs. search rules)
     (λ c. search rules)
-    returns-2
-    returns-3)
+    returns_2
+    returns_3)

@@ -11,9 +11,9 @@ returns : tie.Need-returns-then-held-ge-BODY
 unfolding carried_of
 returns c = let m = c.before.before.args.m in rw (le-ltb m.held longest_body (omega arith))
 
-returns-2 : tie.Need-returns
+returns_2 : tie.Need-returns
 unfolding carried_of
-returns-2 c = let m = c.before.before.before.args.m in rw (lt-ltb m.held longest_body (omega arith)) c.settled.ensures
+returns_2 c = let m = c.before.before.before.args.m in rw (lt-ltb m.held longest_body (omega arith)) c.settled.ensures
 
 pub carried_spec : {M : Type 1} → statement M
-carried_spec = tie.close (tie.spec returns (λ c. search rules) (λ c. search rules) (λ c κs. search rules) returns-2)
+carried_spec = tie.close (tie.spec returns (λ c. search rules) (λ c. search rules) (λ c κs. search rules) returns_2)

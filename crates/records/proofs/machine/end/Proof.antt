@@ -16,12 +16,12 @@ returns c =
     let m = (start c.before.before.before.before.before).args.m in
     rw (lt-ltb m.held m.whole (omega arith)) c.before.before.stopped.ensures
 
-returns-2 : tie.Need-returns
+returns_2 : tie.Need-returns
 unfolding end_text
-returns-2 c =
+returns_2 c =
     let m = (start c.before.before.before.before.before).args.m in
     rw (le-ltb m.held m.whole (omega arith)) c.before.before.done.ensures
 
 pub end_spec : {M : Type 1} → statement M
 end_spec =
-    tie.close (tie.spec (λ c κs. search rules) (λ c. search rules) returns (λ c κs. search rules) (λ c. search rules) returns-2)
+    tie.close (tie.spec (λ c κs. search rules) (λ c. search rules) returns (λ c κs. search rules) (λ c. search rules) returns_2)

@@ -11,11 +11,11 @@ returns c =
     let out = c.before.before.args.out.now in
     rw (← c.before.ended.ensures, c.if-ended.true) (finished_nothing out)
 
-returns-2 : tie.Need-returns
+returns_2 : tie.Need-returns
 unfolding finish_call finish_of
-returns-2 c =
+returns_2 c =
     let m = c.before.before.before.before.args.m in
     rw (← c.before.before.before.ended.ensures, c.before.before.if-ended.false) (finished_is (end_text m) c.end.ensures)
 
 pub finish_spec : {M : Type 1} → statement M
-finish_spec = tie.close (tie.spec (λ c κs. search rules) returns (λ c κs. search rules) returns-2)
+finish_spec = tie.close (tie.spec (λ c κs. search rules) returns (λ c κs. search rules) returns_2)

@@ -10,11 +10,11 @@ returns : tie.Need-returns-then-m
 unfolding settled_of
 returns c = let m = c.before.before.args.m in rw (lt-ltb m.held m.whole (omega arith))
 
-returns-2 : tie.Need-returns
+returns_2 : tie.Need-returns
 unfolding settled_of
-returns-2 c =
+returns_2 c =
     let m = c.before.before.before.before.before.args.m in
     rw (le-ltb m.held m.whole (omega arith), ← c.before.read-item.ensures, c.task.ensures)
 
 pub settled_spec : {M : Type 1} → statement M
-settled_spec = tie.close (tie.spec returns (λ c κs. search rules) (λ c κs. search rules) returns-2)
+settled_spec = tie.close (tie.spec returns (λ c κs. search rules) (λ c κs. search rules) returns_2)

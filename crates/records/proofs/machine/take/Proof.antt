@@ -10,16 +10,16 @@ returns : tie.Need-returns-then-ended
 unfolding taken_of
 returns c = rw (← c.before.ended.ensures, c.if-ended.true)
 
-returns-2 : tie.Need-returns-then-m
+returns_2 : tie.Need-returns-then-m
 unfolding taken_of
-returns-2 c =
+returns_2 c =
     let h = c.before.before.before in
     let m = h.before.before.args.m in
     rw (← h.before.ended.ensures, h.if-ended.false, lt-ltb m.held m.whole (omega arith)) c.carried.ensures
 
-returns-3 : tie.Need-returns
+returns_3 : tie.Need-returns
 unfolding taken_of
-returns-3 c =
+returns_3 c =
     let h = c.before.before.before in
     let m = h.before.before.args.m in
     rw (← h.before.ended.ensures, h.if-ended.false, le-ltb m.held m.whole (omega arith)) c.begun.ensures
@@ -31,6 +31,6 @@ take_spec =
     (λ c κs. search rules)
     returns
     (λ c κs. search rules)
-    returns-2
+    returns_2
     (λ c κs. search rules)
-    returns-3)
+    returns_3)

@@ -8,13 +8,13 @@ returns : tie.Need-returns-in-ToOpen
 unfolding answered
 returns c = rw c.before.in-ToOpen.is c.opening.ensures
 
-returns-2 : tie.Need-returns-in-ToPut
+returns_2 : tie.Need-returns-in-ToPut
 unfolding answered
-returns-2 c = rw c.before.in-ToPut.is c.going_on.ensures
+returns_2 c = rw c.before.in-ToPut.is c.going_on.ensures
 
-returns-3 : tie.Need-returns-in-ToUndo
+returns_3 : tie.Need-returns-in-ToUndo
 unfolding answered
-returns-3 c = rw c.before.in-ToUndo.is c.going_on-in-ToUndo.ensures
+returns_3 c = rw c.before.in-ToUndo.is c.going_on-in-ToUndo.ensures
 
 pub answered_spec : {M : Type 1} → statement M
 answered_spec =
@@ -27,5 +27,5 @@ answered_spec =
     (λ c. search rules)
     (λ c κs. search rules)
     returns
-    returns-2
-    returns-3)
+    returns_2
+    returns_3)

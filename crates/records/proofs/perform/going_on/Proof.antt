@@ -10,9 +10,9 @@ returns : tie.Need-returns-then-number-eq0
 unfolding going_on
 returns c = let number = c.before.outcome_number-number in rw (← number.ensures, eq-eqb number.result 0 (omega arith))
 
-returns-2 : tie.Need-returns
+returns_2 : tie.Need-returns
 unfolding going_on
-returns-2 c = let number = c.before.outcome_number-number in rw (← number.ensures, ne_eqb number.result 0 (omega arith))
+returns_2 c = let number = c.before.outcome_number-number in rw (← number.ensures, ne_eqb number.result 0 (omega arith))
 
 pub going_on_spec : {M : Type 1} → statement M
-going_on_spec = tie.close (tie.spec (λ c κs. search rules) returns returns-2)
+going_on_spec = tie.close (tie.spec (λ c κs. search rules) returns returns_2)

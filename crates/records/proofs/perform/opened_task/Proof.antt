@@ -8,21 +8,21 @@ returns : tie.Need-returns-in-Open
 unfolding task_of
 returns c = rw c.in-Open.is
 
-returns-2 : tie.Need-returns-in-Put
+returns_2 : tie.Need-returns-in-Put
 unfolding task_of
-returns-2 c = rw (c.before.in-Put.is, c.put_request.ensures)
+returns_2 c = rw (c.before.in-Put.is, c.put_request.ensures)
 
-returns-3 : tie.Need-returns-in-NoShape
+returns_3 : tie.Need-returns-in-NoShape
 unfolding task_of
-returns-3 c = rw (c.before.in-NoShape.is, c.shapeless_request.ensures)
+returns_3 c = rw (c.before.in-NoShape.is, c.shapeless_request.ensures)
 
-returns-4 : tie.Need-returns-in-Undo
+returns_4 : tie.Need-returns-in-Undo
 unfolding task_of
-returns-4 c = rw c.in-Undo.is
+returns_4 c = rw c.in-Undo.is
 
-returns-5 : tie.Need-returns-in-Show
+returns_5 : tie.Need-returns-in-Show
 unfolding task_of
-returns-5 c = rw c.in-Show.is
+returns_5 c = rw c.in-Show.is
 
 pub opened_task_spec : {M : Type 1} → statement M
 opened_task_spec =
@@ -36,7 +36,7 @@ opened_task_spec =
     (λ c. search rules)
     (λ c. search rules)
     returns
-    returns-2
-    returns-3
-    returns-4
-    returns-5)
+    returns_2
+    returns_3
+    returns_4
+    returns_5)

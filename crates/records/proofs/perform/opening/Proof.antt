@@ -10,16 +10,16 @@ returns : tie.Need-returns-then-number-eq0
 unfolding opening
 returns c = let number = c.before.outcome_number-number in rw (← number.ensures, eq-eqb number.result 0 (omega arith))
 
-returns-2 : tie.Need-returns-then-number-eq1
+returns_2 : tie.Need-returns-then-number-eq1
 unfolding opening
-returns-2 c =
+returns_2 c =
     let number = c.before.before.before.outcome_number-number in
     rw (← number.ensures, ne_eqb number.result 0 (omega arith), eq-eqb number.result 1 (omega arith))
     c.stopping.ensures
 
-returns-3 : tie.Need-returns
+returns_3 : tie.Need-returns
 unfolding opening
-returns-3 c =
+returns_3 c =
     let number = c.before.before.before.outcome_number-number in
     rw (← number.ensures, ne_eqb number.result 0 (omega arith), ne_eqb number.result 1 (omega arith))
     c.stopping-2.ensures
@@ -31,6 +31,6 @@ opening_spec =
     (λ c κs. search rules)
     returns
     (λ c κs. search rules)
-    returns-2
+    returns_2
     (λ c κs. search rules)
-    returns-3)
+    returns_3)

@@ -15,26 +15,26 @@ returns : tie.Need-returns-in-ToStand
 unfolding performed
 returns c = record { done = rw c.in-ToStand.is; few_cells = tt }
 
-returns-2 : tie.Need-returns-in-ToStop
+returns_2 : tie.Need-returns-in-ToStop
 unfolding performed
-returns-2 c =
+returns_2 c =
     record {
       done = rw (c.before.in-ToStop.is, c.stopping.ensures);
       few_cells = rw c.stopping.ensures tt;
     }
 
-returns-3 : tie.Need-returns-in-ToCall
+returns_3 : tie.Need-returns-in-ToCall
 unfolding performed
-returns-3 c =
+returns_3 c =
     let call = c.before in
     record {
       done = rw (c.in-ToCall.is, ← call.call_on_front-a.ensures, c.answered.ensures);
       few_cells = rw c.answered.ensures (few_answered c.in-ToCall.request (returned call.call_on_front-a.result));
     }
 
-returns-4 : tie.Need-returns-in-ToShow
+returns_4 : tie.Need-returns-in-ToShow
 unfolding performed
-returns-4 c =
+returns_4 c =
     let show = c.before in
     let lent = show.before.before.before.before in
     let told = lent.before.before.before in
@@ -60,6 +60,6 @@ perform_spec =
     (λ c κs. search rules)
     (λ c κs. search rules)
     returns
-    returns-2
-    returns-3
-    returns-4)
+    returns_2
+    returns_3
+    returns_4)

@@ -7,12 +7,12 @@ use Rattle.records.proofs.perform.task.Tie as tie
 returns : tie.Need-returns-in-Closed
 returns c = rw c.before.in-Closed.is c.closed_task.ensures
 
-returns-2 : tie.Need-returns-in-Opened
-returns-2 c = rw c.before.in-Opened.is c.opened_task.ensures
+returns_2 : tie.Need-returns-in-Opened
+returns_2 c = rw c.before.in-Opened.is c.opened_task.ensures
 
-returns-3 : tie.Need-returns-in-Ended
+returns_3 : tie.Need-returns-in-Ended
 unfolding task_of
-returns-3 c = rw c.in-Ended.is
+returns_3 c = rw c.in-Ended.is
 
 pub task_spec : {M : Type 1} → statement M
 task_spec =
@@ -24,5 +24,5 @@ task_spec =
     (λ c κs. search rules)
     (λ c. search rules)
     returns
-    returns-2
-    returns-3)
+    returns_2
+    returns_3)

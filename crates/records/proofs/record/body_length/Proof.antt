@@ -9,11 +9,11 @@ use Rattle.records.proofs.record.body_length.Tie as tie
 returns : tie.Need-returns-in-1
 returns c = let told : c.before.args.kind ≡ 1 = omega arith in rw told
 
-returns-2 : tie.Need-returns-in-2
-returns-2 c = let told : c.before.args.kind ≡ 2 = omega arith in rw told
+returns_2 : tie.Need-returns-in-2
+returns_2 c = let told : c.before.args.kind ≡ 2 = omega arith in rw told
 
-returns-5 : tie.Need-returns-in_default
-returns-5 c = sym (unknown_kind c.before.args.kind (omega arith) (omega arith) (omega arith) (omega arith))
+returns_5 : tie.Need-returns-in_default
+returns_5 c = sym (unknown_kind c.before.args.kind (omega arith) (omega arith) (omega arith) (omega arith))
 
 pub body_length_spec : {M : Type 1} → statement M
-body_length_spec = tie.close (tie.spec returns returns-2 (λ c. search rules) (λ c. search rules) returns-5)
+body_length_spec = tie.close (tie.spec returns returns_2 (λ c. search rules) (λ c. search rules) returns_5)

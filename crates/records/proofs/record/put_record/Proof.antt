@@ -14,8 +14,8 @@ returns c =
       c.in_default.is,
     )
 
-returns-2 : tie.Need-returns
-returns-2 c =
+returns_2 : tie.Need-returns
+returns_2 c =
     rw (
       c.before.before.before.before.size-x.ensures,
       c.before.before.before.size-y.ensures,
@@ -44,4 +44,4 @@ put_record_spec =
     returns
     (λ c. search rules)
     (λ c. search rules)
-    returns-2)
+    returns_2)

@@ -12,21 +12,21 @@ returns c =
     let kind = c.before.before.before.args.kind in
     rw (eq-eqb kind 1 (omega arith), c.before.size.ensures, c.size-then-kind-eq1.ensures)
 
-returns-2 : tie.Need-returns-then-kind-eq2
+returns_2 : tie.Need-returns-then-kind-eq2
 unfolding record_of
-returns-2 c =
+returns_2 c =
     let kind = c.before.before.before.args.kind in
     rw (ne_eqb kind 1 (omega arith), eq-eqb kind 2 (omega arith), c.put_record.ensures)
 
-returns-3 : tie.Need-returns-then-kind-eq3
+returns_3 : tie.Need-returns-then-kind-eq3
 unfolding record_of
-returns-3 c =
+returns_3 c =
     let kind = c.before.before.before.args.kind in
     rw (ne_eqb kind 1 (omega arith), ne_eqb kind 2 (omega arith), eq-eqb kind 3 (omega arith))
 
-returns-4 : tie.Need-returns
+returns_4 : tie.Need-returns
 unfolding record_of
-returns-4 c =
+returns_4 c =
     let kind = c.before.before.before.args.kind in
     rw (ne_eqb kind 1 (omega arith), ne_eqb kind 2 (omega arith), ne_eqb kind 3 (omega arith))
 
@@ -44,6 +44,6 @@ read_spec =
     (λ c. search rules)
     returns
     (λ c κs. search rules)
-    returns-2
-    returns-3
-    returns-4)
+    returns_2
+    returns_3
+    returns_4)

@@ -8,13 +8,13 @@ returns : tie.Need-returns-in-ToOpen
 unfolding request_call
 returns c = rw c.in-ToOpen.is c.«open».ensures
 
-returns-2 : tie.Need-returns-in-ToPut
+returns_2 : tie.Need-returns-in-ToPut
 unfolding request_call
-returns-2 c = rw c.in-ToPut.is c.put_asked.ensures
+returns_2 c = rw c.in-ToPut.is c.put_asked.ensures
 
-returns-3 : tie.Need-returns-in-ToUndo
+returns_3 : tie.Need-returns-in-ToUndo
 unfolding request_call
-returns-3 c = rw c.in-ToUndo.is c.undo.ensures
+returns_3 c = rw c.in-ToUndo.is c.undo.ensures
 
 pub call_spec : {M : Type 1} → statement M
 call_spec =
@@ -33,8 +33,8 @@ call_spec =
     (λ c. search rules)
     (λ c. search rules)
     (λ c. search rules)
-    returns-2
+    returns_2
     (λ c. search rules)
     (λ c. search rules)
     (λ c. search rules)
-    returns-3)
+    returns_3)

@@ -21,56 +21,56 @@ returns c =
     let many : cells_top < padded z = long z (omega arith) in
     (sym (no_room z (padded z) many), sym (no_room z (places z) many))
 
-returns-2 : tie.Need-returns-then-size-gt-CELLS-2
-returns-2 c =
+returns_2 : tie.Need-returns-then-size-gt-CELLS-2
+returns_2 c =
     let a = c.before.before.before.before.args in
     let z = a.size in
     let many : cells_top < padded z = tall z (omega arith) in
     (sym (no_room z (padded z) many), sym (no_room z (places z) many))
 
-returns-3 : tie.Need-returns-then-size-gt-CELLS-3
-returns-3 c =
+returns_3 : tie.Need-returns-then-size-gt-CELLS-3
+returns_3 c =
     let a = c.before.before.before.before.before.before.args in
     let z = a.size in
     let many : cells_top < padded z = long z (omega arith) in
     (sym (no_room z (padded z) many), sym (no_room z (places z) many))
 
-mul-cells-3 : tie.Need-overflow_mul-cells-3
-mul-cells-3 c =
+mul_cells_3 : tie.Need-overflow_mul-cells-3
+mul_cells_3 c =
     let a = (start c.before.before.before).args in
     omega (
       arith,
       product_le (wide a.size) (high a.size) 2048 2048 (omega arith) (omega arith),
     )
 
-returns-4 : tie.Need-returns-then-cells-gt-CELLS
-returns-4 c =
+returns_4 : tie.Need-returns-then-cells-gt-CELLS
+returns_4 c =
     let a = (start c.before.before.before.before).args in
     let z = a.size in
     let many : cells_top < padded z = omega arith in
     (sym (no_room z (padded z) many), sym (no_room z (places z) many))
 
-returns-5 : tie.Need-returns
-returns-5 c =
+returns_5 : tie.Need-returns
+returns_5 c =
     let a = (start c.before.before.before.before.before).args in
     let z = a.size in
-    let few-cells : padded z ≤ cells_top = omega arith in
-    (sym (has_room z (padded z) few-cells), sym (has_room z (places z) few-cells))
+    let few_cells : padded z ≤ cells_top = omega arith in
+    (sym (has_room z (padded z) few_cells), sym (has_room z (places z) few_cells))
 
 pub room_spec : {M : Type 1} → statement M
 room_spec =
     tie.close
     (tie.spec
     returns
-    returns-2
-    returns-3
+    returns_2
+    returns_3
     (λ c. search rules)
     (λ c. search rules)
     (λ c. search rules)
     (λ c. search rules)
     (λ c. search rules)
     (λ c. search rules)
-    mul-cells-3
-    returns-4
+    mul_cells_3
+    returns_4
     (λ c. search rules)
-    returns-5)
+    returns_5)

@@ -27,19 +27,19 @@ abbrev second : tie.After-number → tie.After-byte-two
 second c = c.before.before.before.before
 
 -- the digits of both
-value-short : (c : tie.After-wide8-matte) → length (decimal (value c).wide16-value.result) ≤ 5
-value-short c = let v = (value c).wide16-value in decimal_short 4 v.result (omega (arith, v.ensures.1))
+value_short : (c : tie.After-wide8-matte) → length (decimal (value c).wide16-value.result) ≤ 5
+value_short c = let v = (value c).wide16-value in decimal_short 4 v.result (omega (arith, v.ensures.1))
 
-matte-short : (c : tie.After-wide8-matte) → length (decimal c.wide8-matte.result) ≤ 3
-matte-short c = let m = c.wide8-matte in decimal_short 2 m.result (omega (arith, m.ensures.1))
+matte_short : (c : tie.After-wide8-matte) → length (decimal c.wide8-matte.result) ≤ 3
+matte_short c = let m = c.wide8-matte in decimal_short 2 m.result (omega (arith, m.ensures.1))
 
-number-requires : tie.Need-number-one-requires
-number-requires c κs =
+number_requires : tie.Need-number-one-requires
+number_requires c κs =
     let m = c.before in
-    omega (arith, (start (value m)).requires.out_room, value-short m, matte-short m)
+    omega (arith, (start (value m)).requires.out_room, value_short m, matte_short m)
 
-byte-requires : tie.Need-byte-two-requires
-byte-requires c κs =
+byte_requires : tie.Need-byte-two-requires
+byte_requires c κs =
     let one = c.before.before.before in
     let m = matte one in
     omega (
@@ -47,12 +47,12 @@ byte-requires c κs =
       one.number-one.auto.out,
       one.number-one.ensures.next_is,
       (start (value m)).requires.out_room,
-      value-short m,
-      matte-short m,
+      value_short m,
+      matte_short m,
     )
 
-number-requires-2 : tie.Need-number-requires
-number-requires-2 c κs =
+number_requires_2 : tie.Need-number-requires
+number_requires_2 c κs =
     let two = c.before.before.before in
     let one = first two in
     let m = matte one in
@@ -63,8 +63,8 @@ number-requires-2 c κs =
       one.number-one.ensures.next_is,
       two.byte-two.ensures.next_is,
       (start (value m)).requires.out_room,
-      value-short m,
-      matte-short m,
+      value_short m,
+      matte_short m,
     )
 
 same_length : tie.Need-shape_of-out
@@ -89,8 +89,8 @@ returns c =
         one.number-one.ensures.next_is,
         two.byte-two.ensures.next_is,
         three.number.ensures.next_is,
-        value-short m,
-        matte-short m,
+        value_short m,
+        matte_short m,
       );
     }
 
@@ -103,8 +103,8 @@ cell_spec =
     (λ c κs. search rules)
     (λ c. search rules)
     (λ c κs. search rules)
-    number-requires
-    byte-requires
-    number-requires-2
+    number_requires
+    byte_requires
+    number_requires_2
     same_length
     returns)

@@ -15,8 +15,8 @@ returns c =
       short = omega arith;
     }
 
-returns-2 : tie.Need-returns
-returns-2 c =
+returns_2 : tie.Need-returns
+returns_2 c =
     let start = c.before.before.before.before.before.before in
     let wrote = c.before.before.byte.ensures in
     record {
@@ -25,4 +25,4 @@ returns-2 c =
     }
 
 pub gap_spec : {M : Type 1} → statement M
-gap_spec = tie.close (tie.spec returns (λ c κs. search rules) (λ c. search rules) returns-2)
+gap_spec = tie.close (tie.spec returns (λ c κs. search rules) (λ c. search rules) returns_2)

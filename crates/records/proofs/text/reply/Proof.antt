@@ -13,8 +13,8 @@ use borrow.Author.Rules.{rules}
 use Rattle.records.proofs.text.reply.Statement.{statement}
 use Rattle.records.proofs.text.reply.Tie as tie
 
-show-requires : tie.Need-show-requires
-show-requires c κs =
+show_requires : tie.Need-show-requires
+show_requires c κs =
     let told = c.before.before.before.in-Pictures in
     let s = c.before.before.before.before.before in
     let z : Size = told.size in
@@ -33,17 +33,17 @@ returns c =
     let s = c.before.before in
     rw c.in-Nothing.is (wrote_nothing s.args.out.now s.args.at (omega (arith, s.requires.out_room)))
 
-returns-2 : tie.Need-returns-in-StoppedBy
+returns_2 : tie.Need-returns-in-StoppedBy
 unfolding reply_text
-returns-2 c = rw c.before.before.before.before.in-StoppedBy.is c.before.before.stopped.ensures
+returns_2 c = rw c.before.before.before.before.in-StoppedBy.is c.before.before.stopped.ensures
 
-returns-3 : tie.Need-returns-in-RefusedBy
+returns_3 : tie.Need-returns-in-RefusedBy
 unfolding reply_text
-returns-3 c = rw c.before.before.before.before.before.before.in-RefusedBy.is c.before.before.line.ensures
+returns_3 c = rw c.before.before.before.before.before.before.in-RefusedBy.is c.before.before.line.ensures
 
-returns-4 : tie.Need-returns-in-Pictures
+returns_4 : tie.Need-returns-in-Pictures
 unfolding reply_text
-returns-4 c = rw c.before.before.before.before.before.before.in-Pictures.is c.before.before.show.ensures
+returns_4 c = rw c.before.before.before.before.before.before.in-Pictures.is c.before.before.show.ensures
 
 pub reply_spec : {M : Type 1} → statement M
 reply_spec =
@@ -55,11 +55,11 @@ reply_spec =
     (λ c. search rules)
     (λ c κs. search rules)
     (λ c. search rules)
-    show-requires
+    show_requires
     returns
     (λ c. search rules)
-    returns-2
+    returns_2
     (λ c. search rules)
-    returns-3
+    returns_3
     (λ c. search rules)
-    returns-4)
+    returns_4)

@@ -12,25 +12,25 @@ use Rattle.records.proofs.Laws.Writing.Rows.{row_more}
 use Rattle.records.proofs.text.row.Statement.{statement}
 use Rattle.records.proofs.text.row.Tie as tie
 
-abbrev invariant-loop : tie.invariant-loop-j
-invariant-loop out₀ at values mattes from w next₀ j₀ out next j =
+abbrev invariant_loop : tie.invariant-loop-j
+invariant_loop out₀ at values mattes from w next₀ j₀ out next j =
     (j ≤ w) × (length out ≡ length out₀) × (next ≤ at + row_room j) × Wrote out₀ at (row_text values mattes from j) out next
 
-abbrev decreases-loop : tie.decreases-loop-j
-decreases-loop out₀ at values mattes from w next₀ j₀ out next j = w - j
+abbrev decreases_loop : tie.decreases-loop-j
+decreases_loop out₀ at values mattes from w next₀ j₀ out next j = w - j
 
-loop-holds : tie.Need-loop-j-init invariant-loop decreases-loop
+loop_holds : tie.Need-loop-j-init invariant_loop decreases_loop
 unfolding row_text
-loop-holds c = (search rules, search rules, search rules, wrote_nothing _ _ (omega arith))
+loop_holds c = (search rules, search rules, search rules, wrote_nothing _ _ (omega arith))
 
-gap-requires : tie.Need-gap-start-requires invariant-loop decreases-loop
-gap-requires c κs = omega arith
+gap_requires : tie.Need-gap-start-requires invariant_loop decreases_loop
+gap_requires c κs = omega arith
 
-add-cell : tie.Need-overflow_add-from invariant-loop decreases-loop
-add-cell c = omega arith
+add_cell : tie.Need-overflow_add-from invariant_loop decreases_loop
+add_cell c = omega arith
 
-cell-requires : tie.Need-cell-next-requires invariant-loop decreases-loop
-cell-requires c κs =
+cell_requires : tie.Need-cell-next-requires invariant_loop decreases_loop
+cell_requires c κs =
     let at = c.before.before.before.before.before.before in
     let start = at.before.before.before.before in
     let one = c.before.before.before.gap-start in
@@ -41,8 +41,8 @@ cell-requires c κs =
       mattes_room = omega (arith, start.requires.mattes_room);
     }
 
-loop-again : tie.Need-loop-j-preserved invariant-loop decreases-loop
-loop-again c =
+loop_again : tie.Need-loop-j-preserved invariant_loop decreases_loop
+loop_again c =
     let at = c.before.before.before.before.before.before.before.before.before in
     let start = at.before.before.before.before in
     let one = c.before.before.before.before.before.before.gap-start in
@@ -54,7 +54,7 @@ loop-again c =
           (then_wrote at.loop-j.invariant.3 (then_wrote one.ensures.wrote two.ensures.wrote)),
     )
 
-returns : tie.Need-returns invariant-loop decreases-loop
+returns : tie.Need-returns invariant_loop decreases_loop
 returns c =
     let at = c.before in
     let start = at.before.before.before.before in
@@ -65,14 +65,14 @@ pub row_spec : {M : Type 1} → statement M
 row_spec =
     tie.close
     (tie.spec
-    invariant-loop
-    decreases-loop
-    loop-holds
-    gap-requires
-    add-cell
-    cell-requires
+    invariant_loop
+    decreases_loop
+    loop_holds
+    gap_requires
+    add_cell
+    cell_requires
     (λ c. search rules)
     (λ c. search rules)
-    loop-again
+    loop_again
     (λ c. search rules)
     returns)

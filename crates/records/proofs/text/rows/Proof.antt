@@ -13,23 +13,23 @@ use Rattle.records.proofs.Laws.Writing.Rows.{rows_more}
 use Rattle.records.proofs.text.rows.Statement.{statement}
 use Rattle.records.proofs.text.rows.Tie as tie
 
-abbrev invariant-loop : tie.invariant-loop-y
-invariant-loop out₀ at values mattes w h next₀ from₀ y₀ out next from y =
+abbrev invariant_loop : tie.invariant-loop-y
+invariant_loop out₀ at values mattes w h next₀ from₀ y₀ out next from y =
     (y ≤ h)
     × (from ≡ y * w)
     × (length out ≡ length out₀)
     × (next ≤ at + rows_room w y)
     × Wrote out₀ at (rows_text values mattes w y) out next
 
-abbrev decreases-loop : tie.decreases-loop-y
-decreases-loop out₀ at values mattes w h next₀ from₀ y₀ out next from y = h - y
+abbrev decreases_loop : tie.decreases-loop-y
+decreases_loop out₀ at values mattes w h next₀ from₀ y₀ out next from y = h - y
 
-loop-holds : tie.Need-loop-y-init invariant-loop decreases-loop
+loop_holds : tie.Need-loop-y-init invariant_loop decreases_loop
 unfolding rows_text
-loop-holds c = (omega arith, omega arith, search rules, omega arith, wrote_nothing _ _ (omega arith))
+loop_holds c = (omega arith, omega arith, search rules, omega arith, wrote_nothing _ _ (omega arith))
 
-row-requires : tie.Need-row-end-requires invariant-loop decreases-loop
-row-requires c κs =
+row_requires : tie.Need-row-end-requires invariant_loop decreases_loop
+row_requires c κs =
     let at = c.before.before in
     let start = at.before.before.before.before in
     let before = product_le (at.loop-y.y + 1) start.args.w start.args.h start.args.w (omega arith) (omega arith) in
@@ -41,8 +41,8 @@ row-requires c κs =
       mattes_room = omega (arith, start.requires.mattes_room);
     }
 
-byte-requires : tie.Need-byte-next-requires invariant-loop decreases-loop
-byte-requires c κs =
+byte_requires : tie.Need-byte-next-requires invariant_loop decreases_loop
+byte_requires c κs =
     let at = c.before.before.before.before.before.before in
     let start = at.before.before.before.before in
     let one = c.before.before.before.row-end in
@@ -50,15 +50,15 @@ byte-requires c κs =
     let room = product_le long (at.loop-y.y + 1) long start.args.h (omega arith) (omega arith) in
     omega (arith, one.auto.out, one.ensures.short, at.loop-y.invariant.3, start.requires.out_room)
 
-add-from : tie.Need-overflow_add-from invariant-loop decreases-loop
-add-from c =
+add_from : tie.Need-overflow_add-from invariant_loop decreases_loop
+add_from c =
     let at = c.before.before.before.before.before.before.before.before.before in
     let start = at.before.before.before.before in
     let before = product_le (at.loop-y.y + 1) start.args.w start.args.h start.args.w (omega arith) (omega arith) in
     omega (arith, start.requires.values_room, at.loop-y.invariant.1)
 
-loop-again : tie.Need-loop-y-preserved invariant-loop decreases-loop
-loop-again c =
+loop_again : tie.Need-loop-y-preserved invariant_loop decreases_loop
+loop_again c =
     let at = c.before.before.before.before.before.before.before.before.before in
     let start = at.before.before.before.before in
     let one = c.before.before.before.before.before.before.row-end in
@@ -74,7 +74,7 @@ loop-again c =
           (then_wrote (then_wrote at.loop-y.invariant.4 one.ensures.wrote) two.ensures),
     )
 
-returns : tie.Need-returns invariant-loop decreases-loop
+returns : tie.Need-returns invariant_loop decreases_loop
 returns c =
     let at = c.before in
     let start = at.before.before.before.before in
@@ -85,14 +85,14 @@ pub rows_spec : {M : Type 1} → statement M
 rows_spec =
     tie.close
     (tie.spec
-    invariant-loop
-    decreases-loop
-    loop-holds
-    row-requires
-    byte-requires
-    add-from
+    invariant_loop
+    decreases_loop
+    loop_holds
+    row_requires
+    byte_requires
+    add_from
     (λ c. search rules)
     (λ c. search rules)
-    loop-again
+    loop_again
     (λ c. search rules)
     returns)

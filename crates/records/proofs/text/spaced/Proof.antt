@@ -6,8 +6,8 @@ use borrow.Author.Rules.{rules}
 use Rattle.records.proofs.text.spaced.Statement.{statement}
 use Rattle.records.proofs.text.spaced.Tie as tie
 
-number-requires : tie.Need-number-requires
-number-requires c κs =
+number_requires : tie.Need-number-requires
+number_requires c κs =
     let first = c.before.before.before in
     let s = first.before.before.before in
     omega (arith, s.requires, first.byte-next.auto.out, first.byte-next.ensures.next_is, decimal_long s.args.n (omega arith))
@@ -23,4 +23,4 @@ returns c =
     }
 
 pub spaced_spec : {M : Type 1} → statement M
-spaced_spec = tie.close (tie.spec (λ c κs. search rules) number-requires (λ c. search rules) returns)
+spaced_spec = tie.close (tie.spec (λ c κs. search rules) number_requires (λ c. search rules) returns)

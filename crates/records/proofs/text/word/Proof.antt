@@ -10,25 +10,25 @@ use Rattle.records.proofs.Laws.Writing.Slices.{wrote_nothing, word_more}
 use Rattle.records.proofs.text.word.Statement.{statement}
 use Rattle.records.proofs.text.word.Tie as tie
 
-abbrev invariant-loop : tie.invariant-loop-i
-invariant-loop out₀ at w next₀ i₀ i-end out next i =
+abbrev invariant_loop : tie.invariant-loop-i
+invariant_loop out₀ at w next₀ i₀ i-end out next i =
     (i ≤ length w) × (length out ≡ length out₀) × Wrote out₀ at (take i w) out next
 
-abbrev decreases-loop : tie.decreases-loop-i
-decreases-loop out₀ at w next₀ i₀ i-end out next i = i-end - i
+abbrev decreases_loop : tie.decreases-loop-i
+decreases_loop out₀ at w next₀ i₀ i-end out next i = i-end - i
 
-loop-holds : tie.Need-loop-i-init invariant-loop decreases-loop
-loop-holds c = (search rules, search rules, wrote_nothing _ _ (omega arith))
+loop_holds : tie.Need-loop-i-init invariant_loop decreases_loop
+loop_holds c = (search rules, search rules, wrote_nothing _ _ (omega arith))
 
-byte-requires : tie.Need-byte-next-requires invariant-loop decreases-loop
-byte-requires c κs =
+byte_requires : tie.Need-byte-next-requires invariant_loop decreases_loop
+byte_requires c κs =
     let at = c.before.before.before in
     let start = at.before.before.before in
     let long = length-take-le at.loop-i.i start.args.w.now at.loop-i.invariant.0 in
     omega (arith, start.requires, long, at.loop-i.invariant.2.next_is)
 
-loop-again : tie.Need-loop-i-preserved invariant-loop decreases-loop
-loop-again c =
+loop_again : tie.Need-loop-i-preserved invariant_loop decreases_loop
+loop_again c =
     let at = c.before.before.before.before.before.before in
     let start = at.before.before.before in (
       search rules,
@@ -36,7 +36,7 @@ loop-again c =
       word_more start.args.w.now at.loop-i.i at.loop-i.invariant.2 c.before.before.byte-next.ensures (omega arith),
     )
 
-returns : tie.Need-returns invariant-loop decreases-loop
+returns : tie.Need-returns invariant_loop decreases_loop
 returns c =
     let at = c.before in
     let start = at.before.before.before in
@@ -47,13 +47,13 @@ pub word_spec : {M : Type 1} → statement M
 word_spec =
     tie.close
     (tie.spec
-    invariant-loop
-    decreases-loop
-    loop-holds
+    invariant_loop
+    decreases_loop
+    loop_holds
     (λ c. search rules)
-    byte-requires
+    byte_requires
     (λ c. search rules)
     (λ c. search rules)
-    loop-again
+    loop_again
     (λ c. search rules)
     returns)
