@@ -77,15 +77,15 @@ pascal : (c n l s x i : ℕ) → term c (suc n) l s x (suc i) ≡ term c n l s x
 unfolding term next power choose
 pascal c n l s x i = omega arith
 
-row-marks : (c n l s x : ℕ) → row_marks c n l (λ x. same x s 1) x ≡ sum (term c n l s x) (suc n)
+row_marks_lem : (c n l s x : ℕ) → row_marks c n l (λ x. same x s 1) x ≡ sum (term c n l s x) (suc n)
 unfolding row_marks mix
-row-marks c zero l s x =
+row_marks_lem c zero l s x =
     unfold sum term power choose in (omega (arith, same_as x s x (s + 0 * l) 1 (omega arith) (omega arith)))
-row-marks c (suc n) l s x =
+row_marks_lem c (suc n) l s x =
     let t = term c n l s x in
     let v = next c n l s x in
-    let a = row-marks c n l s x in
-    let b = shifted c n l s (row_marks c n l (λ x. same x s 1)) (row-marks c n l s) x in
+    let a = row_marks_lem c n l s x in
+    let b = shifted c n l s (row_marks c n l (λ x. same x s 1)) (row_marks_lem c n l s) x in
     let d = sum_front (term c (suc n) l s x) (suc n) in
     let e = sum_ext (λ i. term c (suc n) l s x (suc i)) (λ i. t (suc i) + c * v i) (pascal c n l s x) (suc n) in
     let f = sum-add (λ i. t (suc i)) (λ i. c * v i) (suc n) in
@@ -138,8 +138,8 @@ grid_cell_lem : (n l s t x y : ℕ)
 unfolding product
 grid_cell_lem n l s t x y =
     rw (
-      row-marks (2 ^ 64 - 1) n l s x,
-      row-marks (2 ^ 64 - 1) n l t y,
+      row_marks_lem (2 ^ 64 - 1) n l s x,
+      row_marks_lem (2 ^ 64 - 1) n l t y,
       sum_product (term (2 ^ 64 - 1) n l s x) (term (2 ^ 64 - 1) n l t y) (suc n) (suc n),
     )
     (sum_cong _ _ (λ i. sum_cong _ _ (λ j. mark_product n l s t x y i j) (suc n)) (suc n))

@@ -17,7 +17,7 @@ use Rattle.kernels_model.proofs.Sums.PlaneSums.{up2, up1, up0, down1, down2, fir
 use Rattle.kernels_model.proofs.Marking.BoxGrids.{box_kernel}
 use Rattle.kernels_model.proofs.Marking.LineFact.{row_first, row-rest, Sloping}
 use Rattle.kernels_model.proofs.Marking.MarkLists.{finish_append, finish-scaled}
-use Rattle.kernels_model.proofs.Taps.TapForms.{box-tap, column_tap, diamond_height, hexagon_height, octagon_height}
+use Rattle.kernels_model.proofs.Taps.TapForms.{box_tap_lem, column_tap, diamond_height, hexagon_height, octagon_height}
 use Rattle.kernels_model.proofs.Taps.TapForms.{diamond_columns, hexagon_columns, octagon_columns}
 use Rattle.kernels_model.proofs.Marking.Outlines.{outline_fact}
 
@@ -137,7 +137,7 @@ tap_kernel : (s : Shape) (r X Y x y : ℕ) → reach_of s r ≤ X → reach_of s
     → finish (planes_of (tap_marks s r X Y)) x y % 2 ^ 64 ≡ tap s r (dist x X) (dist y Y) % 2 ^ 64
 unfolding tap_marks
 tap_kernel Box r X Y x y p q =
-    box_kernel first r X Y x y p (omega arith) ∙ ap (λ (z : ℕ). z % 2 ^ 64) (sym (box-tap r (dist x X) (dist y Y)))
+    box_kernel first r X Y x y p (omega arith) ∙ ap (λ (z : ℕ). z % 2 ^ 64) (sym (box_tap_lem r (dist x X) (dist y Y)))
 tap_kernel Tent r X Y x y p q = unfold tap in (box_kernel second r X Y x y p (omega arith))
 tap_kernel Triple r X Y x y p q = unfold tap in (box_kernel third r X Y x y p (omega arith))
 tap_kernel Diamond r X Y x y p q =
@@ -154,7 +154,7 @@ tap_kernel Octagon r X Y x y p q =
 point_tap : (dx dy : ℕ) → box_tap 1 0 dx * box_tap 1 0 dy ≡ same dx 0 (same dy 0 1)
 unfolding tap
 point_tap dx dy =
-    sym (box-tap 0 dx dy)
+    sym (box_tap_lem 0 dx dy)
     ∙ within_same dx (within dy 0 1)
     ∙ ap (same dx 0) (within_same dy 1)
   where

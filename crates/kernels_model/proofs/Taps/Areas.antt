@@ -15,7 +15,7 @@ use Rattle.kernels_model.proofs.Numbers.Choices.{by_lt, by_eq, within_yes, if_sa
 use Rattle.kernels_model.proofs.Sums.FiniteSums.{sum_ext, sum_ext_lt, sum-add, sum_mul, sum-zero, sum_const, sum_swap}
 use Rattle.kernels_model.proofs.Sums.FiniteSums.{sum_product, term_le, sum_same}
 use Rattle.kernels_model.proofs.Sums.BoxSums.{sum-shift}
-use Rattle.kernels_model.proofs.Taps.TapForms.{taps_dist, box-tap, diamond_height, hexagon_height, octagon_height}
+use Rattle.kernels_model.proofs.Taps.TapForms.{taps_dist, box_tap_lem, diamond_height, hexagon_height, octagon_height}
 use Rattle.kernels_model.proofs.Taps.TapForms.{diamond_columns, hexagon_columns, octagon_columns, far_x, far_y}
 use Rattle.kernels_model.proofs.Taps.Columns.{outline_area}
 
@@ -179,7 +179,7 @@ octagon_area r t p =
 -- the sum of all taps is the counted area
 pub area_counted : (s : Shape) (r : ℕ) → area s r ≡ counted_area s r
 unfolding area counted_area tap
-area_counted Box r = square_ext _ _ (1 * r) (box-tap r) ∙ boxes_area 1 r ∙ ap squared (power_one (2 * r + 1))
+area_counted Box r = square_ext _ _ (1 * r) (box_tap_lem r) ∙ boxes_area 1 r ∙ ap squared (power_one (2 * r + 1))
 area_counted Tent r = boxes_area 2 r ∙ ap squared (power_two (2 * r + 1))
 area_counted Triple r = boxes_area 3 r ∙ ap squared (power_three (2 * r + 1))
 area_counted Diamond r =

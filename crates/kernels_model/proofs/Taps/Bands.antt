@@ -16,7 +16,7 @@ use Rattle.kernels_model.specs.Band.{height_of, row_radius, own_tap, span_of, Ba
 use Rattle.kernels_model.specs.Band.{band_weight, is_level, BandOf}
 use Rattle.kernels_model.proofs.Numbers.Choices.{by_test, by_lt, if_within, within_yes, within_no, within_as, if_same}
 use Rattle.kernels_model.proofs.Numbers.Products.{product_le}
-use Rattle.kernels_model.proofs.Taps.TapForms.{box_far, one-box, box-tap}
+use Rattle.kernels_model.proofs.Taps.TapForms.{box_far, one-box, box_tap_lem}
 use Rattle.kernels_model.proofs.Taps.Areas.{weight_le}
 use Rattle.kernels_model.proofs.Taps.TableRows.{both_true}
 use Rattle.kernels_model.proofs.Taps.Shares.{parts_under}
@@ -43,7 +43,7 @@ octagon_row r t dx dy =
 -- each kernel's row is boxes convolved, times its own tap
 pub row_taps : (s : Shape) (r dx dy : ℕ) → tap s r dx dy ≡ own_tap s r dy * box_tap (boxes_of s) (row_radius s r dy) dx
 unfolding tap
-row_taps Box r dx dy = box-tap r dx dy ∙ mul_comm (box_tap 1 r dx) (box_tap 1 r dy)
+row_taps Box r dx dy = box_tap_lem r dx dy ∙ mul_comm (box_tap 1 r dx) (box_tap 1 r dy)
 row_taps Tent r dx dy = mul_comm (box_tap 2 r dx) (box_tap 2 r dy)
 row_taps Triple r dx dy = mul_comm (box_tap 3 r dx) (box_tap 3 r dy)
 row_taps Diamond r dx dy =

@@ -89,9 +89,9 @@ unfolding box_tap convolved
 one-box r d = box_one (2 * r + 1) (1 * r + d) ∙ within_as _ _ d r 1 (omega arith) (omega arith)
 
 -- the box kernel's tap is a product, as the tent's and the triple's
-pub box-tap : (r dx dy : ℕ) → tap Box r dx dy ≡ box_tap 1 r dx * box_tap 1 r dy
+pub box_tap_lem : (r dx dy : ℕ) → tap Box r dx dy ≡ box_tap 1 r dx * box_tap 1 r dy
 unfolding tap
-box-tap r dx dy = rw (one-box r dx, one-box r dy) (if_within dx r _ _ near far)
+box_tap_lem r dx dy = rw (one-box r dx, one-box r dy) (if_within dx r _ _ near far)
   where
     near : dx ≤ r → within dy r 1 ≡ within dx r 1 * within dy r 1
     near g = rw (within_yes dx r 1) (omega arith)
