@@ -1,12 +1,11 @@
 // The radius from depth, by the thin lens formula in whole numbers.
 ghost use Rattle.std.specs.Prelude.{◌≡◌, true, ◌≤◌};
-ghost use Rattle.kernels_model.specs.Sum.{dist};
 ghost use Rattle.kernels_model.specs.Lens.{lawful_lens, blur, radius_answer, radius_answer_for};
 ghost use Rattle.kernels_model.specs.Fixed.{depth_top};
 
 use crate::rounding::rounded;
 use kernels_model::fixed::DEPTH_TOP;
-use kernels_model::lens::{Lens, Radius};
+use kernels_model::lens::{Lens, RadiusError};
 
 // The bounds of a lens's numbers.
 const OPENING_TOP: u32 = 4000;
@@ -21,75 +20,45 @@ const PITCH_TOP: u32 = 1000;
 const LENS_FACTOR: u64 = 500;
 
 // Whether a lens can be: each of its numbers in its bounds, and the focus past the focal length.
+#[tactic(auto, unfolding(kernels_model::specs::Lens::lawful_lens))]
 pub fn lawful_lens(l: Lens) -> bool
     ensures { result ≡ lawful_lens l }
 {
-    if l.opening < 1 {
-        return false;
-    }
-    if OPENING_TOP < l.opening {
-        return false;
-    }
-    if l.focal < 1 {
-        return false;
-    }
-    if FOCAL_TOP < l.focal {
-        return false;
-    }
-    if l.focus <= l.focal {
-        return false;
-    }
-    if FOCUS_TOP < l.focus {
-        return false;
-    }
-    if l.pitch < 1 {
-        return false;
-    }
-    if PITCH_TOP < l.pitch {
-        return false;
-    }
-    true
-}
-
-// How far two numbers lie apart.
-fn apart(a: u64, b: u64) -> u64
-    ensures { result ≡ dist a b }
-{
-    if a < b {
-        return b - a;
-    }
-    a - b
+    (1..=OPENING_TOP).contains(&l.opening)
+        && (1..=FOCAL_TOP).contains(&l.focal)
+        && l.focal < l.focus
+        && l.focus <= FOCUS_TOP
+        && (1..=PITCH_TOP).contains(&l.pitch)
 }
 
 // The radius that the formula gives, before any top. For a lawful lens no product is above 10^17, so none wraps.
+#[tactic(auto, using(crate::proofs::Laws::Lenses::blur_laws))]
 fn blurred(l: Lens, depth: u32) -> u64
     requires l_value { lawful_lens l ≡ true }
     requires depth_le_depth_top { depth ≤ depth_top }
     ensures { result ≡ blur l depth }
 {
-    let scale = LENS_FACTOR * l.opening as u64 * l.focal as u64;
-    let pitch = l.pitch as u64;
-    let past = (l.focus - l.focal) as u64;
+    let scale = LENS_FACTOR * u64::from(l.opening) * u64::from(l.focal);
+    let pitch = u64::from(l.pitch);
+    let past = u64::from(l.focus - l.focal);
     if depth == 0 {
-        return rounded(scale, pitch * past);
+        rounded(scale, pitch * past)
+    } else {
+        let z = u64::from(depth);
+        rounded(scale * z.abs_diff(u64::from(l.focus)), pitch * z * past)
     }
-    let z = depth as u64;
-    rounded(scale * apart(z, l.focus as u64), pitch * z * past)
 }
 
 // The radius of a pixel at a depth, at most the top that its shape and its plate give. Depth 0 is infinity.
-pub fn radius_from(l: Lens, top: u8, depth: u32) -> Radius
+#[tactic(auto, using(crate::proofs::Laws::Lenses::radius_laws), unfolding(kernels_model::specs::Lens::radius_answer))]
+pub fn radius_from(l: Lens, top: u8, depth: u32) -> Result<u8, RadiusError>
     ensures { radius_answer result ≡ radius_answer_for l top depth }
 {
     if !lawful_lens(l) {
-        return Radius::NoLens;
+        Err(RadiusError::NoLens)
+    } else if DEPTH_TOP < depth {
+        Err(RadiusError::NoDepth)
+    } else {
+        Ok(blurred(l, depth).min(u64::from(top)) as u8)
     }
-    if DEPTH_TOP < depth {
-        return Radius::NoDepth;
-    }
-    let r = blurred(l, depth);
-    if r < top as u64 {
-        return Radius::Pixels(r as u8);
-    }
-    Radius::Pixels(top)
 }

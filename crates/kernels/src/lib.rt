@@ -9,7 +9,7 @@ pub mod shape;
 pub mod share;
 
 pub use kernels_model::band::Band;
-pub use kernels_model::lens::{Lens, Radius};
+pub use kernels_model::lens::{Lens, RadiusError};
 pub use kernels_model::mark::{Boxes, Drawing, Line, Outline};
-pub use kernels_model::shape::{Shape, ShapeRead};
+pub use kernels_model::shape::{Shape, UnknownShape};
 pub use kernels_model::share::{Share, Table};

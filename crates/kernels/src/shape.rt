@@ -1,51 +1,18 @@
 // The six shapes of a lens opening.
 ghost use Rattle.std.specs.Prelude.{◌≡◌};
-ghost use Rattle.kernels_model.specs.Shape.{number_of, shape_answer, shape_answer_for, boxes_of, top_of, tap_count, count_of, reach_of};
-ghost use Rattle.kernels_model.specs.Shape.{top_under};
+ghost use Rattle.kernels_model.specs.Shape.{boxes_of, top_of, tap_count, count_of, reach_of, top_under};
 
 use kernels_model::fixed::CENTRE_MARKS;
-use kernels_model::shape::{Shape, ShapeRead};
-
-// The number that stands for a shape outside of this engine.
-pub fn number(s: Shape) -> u8
-    ensures { result ≡ number_of s }
-{
-    match s {
-        Shape::Box => 0,
-        Shape::Tent => 1,
-        Shape::Triple => 2,
-        Shape::Diamond => 3,
-        Shape::Hexagon => 4,
-        Shape::Octagon => 5,
-    }
-}
-
-// The shape that a number names; a number above 5 names none.
-pub fn shape_of(n: u8) -> ShapeRead
-    ensures { shape_answer result ≡ shape_answer_for n }
-{
-    match n {
-        0 => ShapeRead::Known(Shape::Box),
-        1 => ShapeRead::Known(Shape::Tent),
-        2 => ShapeRead::Known(Shape::Triple),
-        3 => ShapeRead::Known(Shape::Diamond),
-        4 => ShapeRead::Known(Shape::Hexagon),
-        5 => ShapeRead::Known(Shape::Octagon),
-        _ => ShapeRead::Unknown,
-    }
-}
+use kernels_model::shape::Shape;
 
 // How many boxes are convolved into a kernel; 1 for a shape that is no box.
 pub fn boxes(s: Shape) -> usize
     ensures { result ≡ boxes_of s }
 {
     match s {
-        Shape::Box => 1,
+        Shape::Box | Shape::Diamond | Shape::Hexagon | Shape::Octagon => 1,
         Shape::Tent => 2,
         Shape::Triple => 3,
-        Shape::Diamond => 1,
-        Shape::Hexagon => 1,
-        Shape::Octagon => 1,
     }
 }
 
@@ -54,12 +21,9 @@ pub fn top(s: Shape) -> usize
     ensures { result ≡ top_of s }
 {
     match s {
-        Shape::Box => 64,
+        Shape::Box | Shape::Diamond | Shape::Hexagon | Shape::Octagon => 64,
         Shape::Tent => 8,
         Shape::Triple => 3,
-        Shape::Diamond => 64,
-        Shape::Hexagon => 64,
-        Shape::Octagon => 64,
     }
 }
 
@@ -72,8 +36,7 @@ fn tap_marks(s: Shape) -> u32
         Shape::Tent => 9,
         Shape::Triple => 16,
         Shape::Diamond => 8,
-        Shape::Hexagon => 12,
-        Shape::Octagon => 12,
+        Shape::Hexagon | Shape::Octagon => 12,
     }
 }
 
@@ -88,17 +51,12 @@ pub fn mark_count(s: Shape) -> u32
 pub fn reach(s: Shape, radius: u8) -> usize
     ensures { result ≡ reach_of s radius }
 {
-    boxes(s) * radius as usize
+    boxes(s) * usize::from(radius)
 }
 
 // The largest radius of a shape on a plate whose kernels reach no further than `reach`.
 pub fn top_under(s: Shape, reach: usize) -> u8
     ensures { result ≡ top_under s reach }
 {
-    let most = top(s);
-    let within = reach / boxes(s);
-    if within < most {
-        return within as u8;
-    }
-    most as u8
+    top(s).min(reach / boxes(s)) as u8
 }

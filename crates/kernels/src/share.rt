@@ -4,7 +4,7 @@ ghost use Rattle.kernels_model.specs.Shape.{top_of};
 ghost use Rattle.kernels_model.specs.Tap.{area};
 ghost use Rattle.kernels_model.specs.Share.{share_parts, share_table, table_share};
 
-use crate::shape::{number, top};
+use crate::shape::top;
 use kernels_model::fixed::{RADII, TABLE_COLUMNS, UNIT};
 use kernels_model::shape::Shape;
 use kernels_model::share::{Share, Table};
@@ -427,31 +427,35 @@ pub fn shares() -> Table
     SHARES
 }
 
+// What a pixel adds of a kernel that there is none of: 0, as `share_parts` and the table define it.
+const NO_SHARE: Share = Share { each: 0, rest: 0 };
+
 // What a table holds for a shape and a radius; 0 for a radius that it has no place for.
+#[tactic(auto, using(crate::proofs::Laws::Shares::table_laws))]
 pub fn share_in(table: &Table, s: Shape, radius: u8) -> Share
     ensures { result ≡ table_share table.now s radius }
 {
-    if (radius as usize) < RADII {
-        let place = TABLE_COLUMNS * (RADII * (number(s) as usize) + (radius as usize));
-        let each = table[place];
-        let rest = table[place + 1];
+    let row = usize::from(radius);
+    if row < RADII {
+        let place = TABLE_COLUMNS * (RADII * usize::from(u8::from(s)) + row);
         Share {
-            each: each,
-            rest: rest,
+            each: table[place],
+            rest: table[place + 1],
         }
     } else {
-        Share { each: 0, rest: 0 }
+        NO_SHARE
     }
 }
 
 // The area of a kernel: the sum of its taps. That of boxes is the square of the sum on one axis. Any other shape is rows of ones:
 // those of the whole width, and above and below them narrower ones, counted by their mean width. 32 bits hold the area of each
 // radius up to the top, and a division in 32 bits is the quicker one.
+#[tactic(auto, using(kernels_model::proofs::Taps::Areas::area_counted), unfolding(kernels_model::proofs::Taps::Areas::counted_area))]
 fn area_of(s: Shape, radius: u8) -> u32
     requires { radius ≤ top_of s }
     ensures { result ≡ area s radius }
 {
-    let r = radius as u32;
+    let r = u32::from(radius);
     let t = r / 2;
     let side = 2 * r + 1;
     match s {
@@ -472,15 +476,17 @@ fn area_of(s: Shape, radius: u8) -> u32
 
 // Share and remainder of one kernel, worked out: for one or two kernels that is quicker than making the table. 0 above the
 // shape's top.
+#[tactic(auto, using(crate::proofs::Laws::Shares::share_laws), unfolding(kernels_model::specs::Tap::share_for, kernels_model::specs::Tap::rest_for))]
 pub fn share_of(s: Shape, radius: u8) -> Share
     ensures { result ≡ share_parts s radius }
 {
-    if top(s) < radius as usize {
-        return Share { each: 0, rest: 0 };
-    }
-    let area = area_of(s, radius);
-    Share {
-        each: UNIT / area,
-        rest: UNIT % area,
+    if top(s) < usize::from(radius) {
+        NO_SHARE
+    } else {
+        let area = area_of(s, radius);
+        Share {
+            each: UNIT / area,
+            rest: UNIT % area,
+        }
     }
 }

@@ -1,10 +1,10 @@
 -- What is proved of kernels, their marks and sums, and of rounding, as statements. Cells are compared at 2^64, since "Sums wrap
 -- at 2^64 on the way".
-use Rattle.std.specs.Prelude.{◌≡◌, true, List, [], ◌∷◌, ℕ, zero, suc, ◌+◌, ◌*◌, ◌-◌, ◌^◌, ◌%◌, ◌≤◌, ◌<◌, ltb, length}
+use Rattle.std.specs.Prelude.{◌≡◌, true, List, [], ◌∷◌, ℕ, zero, suc, ◌+◌, ◌*◌, ◌-◌, ◌^◌, ◌%◌, ◌≤◌, ◌<◌, ltb, length, Option}
 use Rattle.kernels_model.specs.Fixed.{unit, planes_each, margin, value_top, matte_unit, matte_top}
 use Rattle.kernels_model.specs.Choice.{pick, within, same, strip}
 use Rattle.kernels_model.specs.Sum.{dist, Plane, down, slope, summed, finish}
-use Rattle.kernels_model.specs.Shape.{Shape, ShapeRead, shape_of, shape_answer, shape_answer_for, top_of, count_of, reach_of}
+use Rattle.kernels_model.specs.Shape.{Shape, shape_of, shape_answer, shape_answer_for, top_of, count_of, reach_of}
 use Rattle.kernels_model.specs.Shape.{top_under}
 use Rattle.kernels_model.specs.Tap.{box_tap, octagon_tap, Taps, square_sum, weighted, weight}
 use Rattle.kernels_model.specs.Mark.{Mark, Run, run_row, slope_plane, run_marks, box_marks, tap_marks, scaled, marks, planes_of}
@@ -17,7 +17,7 @@ use Rattle.kernels_model.specs.Lens.{Lens, lens_factor, lawful_lens, blur}
 -- SHAPES
 -- an answer with the number and the value that the one for n has to have is the shape of n in the table
 abbrev pub ShapeFact : Type 0
-ShapeFact = (a : ShapeRead) (n : ℕ) → shape_answer a ≡ shape_answer_for n → a ≡ shape_of n
+ShapeFact = (a : Option Shape) (n : ℕ) → shape_answer a ≡ shape_answer_for n → a ≡ shape_of n
 
 -- "so r is also at most R / n rounded down": a radius is at most the top under R exactly where it is at most the shape's top and
 -- the kernel reaches at most R

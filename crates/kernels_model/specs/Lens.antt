@@ -1,13 +1,13 @@
 -- The radius from depth.
-use Rattle.std.specs.Prelude.{Bool, true, false, ℕ, zero, suc, ◌*◌, ◌-◌, min, leb, ltb}
+use Rattle.std.specs.Prelude.{Bool, true, false, ℕ, zero, suc, ◌*◌, ◌-◌, min, leb, ltb, Result, Ok, Err}
 use Rattle.kernels_model.specs.Fixed.{depth_top, accepted, lens_refused, depth_refused}
 use Rattle.kernels_model.specs.Choice.{pick}
 use Rattle.kernels_model.specs.NumberAndValue.{NumberAndValue, number_and_value}
 use Rattle.kernels_model.specs.Sum.{dist}
 use Rattle.kernels_model.specs.Rounding.{nearest}
 pub use Rattle.kernels_model.specs.declared.lens.Lens.{Lens}
-pub use Rattle.kernels_model.specs.declared.lens.Radius.{Radius}
-pub use Rattle.kernels_model.specs.declared.lens.Radius.TheVariants.{Pixels, NoLens, NoDepth}
+pub use Rattle.kernels_model.specs.declared.lens.RadiusError.{RadiusError}
+pub use Rattle.kernels_model.specs.declared.lens.RadiusError.TheVariants.{NoLens, NoDepth}
 
 -- "opening D and focal length f (1 to 4,000), focus S (above f, at most 10,000,000), .. pitch p 1 to 1,000"
 abbrev pub opening_top : ℕ
@@ -49,10 +49,10 @@ blur l (suc m) =
     (l.pitch * suc m * (l.focus - l.focal))
 
 -- the paper's number and value for each answer: a radius in pixels is accepted
-unfoldable pub radius_answer : Radius → NumberAndValue
-radius_answer (Pixels r) = number_and_value accepted r
-radius_answer NoLens = number_and_value lens_refused 0
-radius_answer NoDepth = number_and_value depth_refused 0
+unfoldable pub radius_answer : Result ℕ RadiusError → NumberAndValue
+radius_answer (Ok r) = number_and_value accepted r
+radius_answer (Err NoLens) = number_and_value lens_refused 0
+radius_answer (Err NoDepth) = number_and_value depth_refused 0
 
 -- those that the answer for a lens, a top and a depth has to have: "then at most the shape's top under R"; "D, f, S or p outside"
 -- is 11, "a depth above 10,000,000" is 12

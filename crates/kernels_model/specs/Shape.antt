@@ -1,12 +1,10 @@
 -- The six shapes, and their rows in the paper's table of kernels.
-use Rattle.std.specs.Prelude.{ℕ, ◌+◌, ◌*◌, ◌/◌, min, List, [], ◌∷◌, get_or, ltb}
+use Rattle.std.specs.Prelude.{ℕ, ◌+◌, ◌*◌, ◌/◌, min, List, [], ◌∷◌, get_or, ltb, Option, Some, None}
 use Rattle.kernels_model.specs.Fixed.{shape_count, centre_count, accepted, shape_refused}
 use Rattle.kernels_model.specs.Choice.{pick}
 use Rattle.kernels_model.specs.NumberAndValue.{NumberAndValue, number_and_value}
 pub use Rattle.kernels_model.specs.declared.shape.Shape.{Shape}
 pub use Rattle.kernels_model.specs.declared.shape.Shape.TheVariants.{Box, Tent, Triple, Diamond, Hexagon, Octagon}
-pub use Rattle.kernels_model.specs.declared.shape.ShapeRead.{ShapeRead}
-pub use Rattle.kernels_model.specs.declared.shape.ShapeRead.TheVariants.{Known, Unknown}
 
 -- "shape 0 to 5"
 abbrev pub number_of : Shape → ℕ
@@ -18,16 +16,16 @@ number_of Hexagon = 4
 number_of Octagon = 5
 
 -- the shape of a number, none above 5
-abbrev pub shapes : List ShapeRead
-shapes = Known Box ∷ Known Tent ∷ Known Triple ∷ Known Diamond ∷ Known Hexagon ∷ Known Octagon ∷ []
+abbrev pub shapes : List (Option Shape)
+shapes = Some Box ∷ Some Tent ∷ Some Triple ∷ Some Diamond ∷ Some Hexagon ∷ Some Octagon ∷ []
 
-abbrev pub shape_of : ℕ → ShapeRead
-shape_of n = get_or shapes n Unknown
+abbrev pub shape_of : ℕ → Option Shape
+shape_of n = get_or shapes n None
 
 -- the paper's number and value for each answer: a known shape is accepted, and its value is its number
-unfoldable pub shape_answer : ShapeRead → NumberAndValue
-shape_answer (Known s) = number_and_value accepted (number_of s)
-shape_answer Unknown = number_and_value shape_refused 0
+unfoldable pub shape_answer : Option Shape → NumberAndValue
+shape_answer (Some s) = number_and_value accepted (number_of s)
+shape_answer None = number_and_value shape_refused 0
 
 -- those that the answer for the number n has to have: "shape above 5" is 6
 unfoldable pub shape_answer_for : ℕ → NumberAndValue

@@ -1,8 +1,8 @@
 -- The table of shares and remainders, and those of a kernel as the code hands them out.
-use Rattle.std.specs.Prelude.{List, [], ◌∷◌, ℕ, zero, suc, ◌+◌, ◌*◌, ◌/◌, ◌%◌, ltb, get_or}
+use Rattle.std.specs.Prelude.{List, [], ◌∷◌, ℕ, zero, suc, ◌+◌, ◌*◌, ◌/◌, ◌%◌, ltb, get_or, Option, Some, None}
 use Rattle.kernels_model.specs.Fixed.{radii, table_rows, table_columns}
 use Rattle.kernels_model.specs.Choice.{pick, within}
-use Rattle.kernels_model.specs.Shape.{Shape, ShapeRead, Known, Unknown, number_of, shape_of, top_of}
+use Rattle.kernels_model.specs.Shape.{Shape, number_of, shape_of, top_of}
 use Rattle.kernels_model.specs.Tap.{share, rest}
 pub use Rattle.kernels_model.specs.declared.share.Share.{Share}
 
@@ -22,9 +22,9 @@ share_parts s r = share_from (share_up_to s r) (rest_up_to s r)
 
 -- "The shares for all six shapes and every radius stand in one table", "the remainder as a second column": shape by shape, each
 -- radius by radius
-abbrev pub parts_of : ShapeRead → ℕ → Share
-parts_of (Known s) r = share_parts s r
-parts_of Unknown r = share_from 0 0
+abbrev pub parts_of : Option Shape → ℕ → Share
+parts_of (Some s) r = share_parts s r
+parts_of None r = share_from 0 0
 
 -- share and remainder of row k
 unfoldable pub parts_at : ℕ → Share

@@ -3,7 +3,7 @@ use crate::shape::Shape;
 
 // One row of a kernel: the taps of some boxes convolved on one axis, times the row's own tap; what a tap is worth, and what the
 // middle has besides.
-#[derive(Clone, Copy)]
+#[derive(Clone, Copy, Debug, PartialEq, Eq)]
 pub struct Band {
     // says how many boxes: 1 for shapes of ones
     pub shape: Shape,

@@ -1,7 +1,7 @@
 // A lens, and a radius from depth.
 
 // Opening, focal length and focus in 0.1 mm, pitch in 0.1 µm.
-#[derive(Clone, Copy)]
+#[derive(Clone, Copy, Debug, PartialEq, Eq)]
 pub struct Lens {
     pub opening: u32,
     pub focal: u32,
@@ -9,10 +9,9 @@ pub struct Lens {
     pub pitch: u32,
 }
 
-// A radius, or why there is none.
-#[derive(Clone, Copy)]
-pub enum Radius {
-    Pixels(u8),
+// Why there is no radius.
+#[derive(Clone, Copy, Debug, PartialEq, Eq)]
+pub enum RadiusError {
     NoLens,
     NoDepth,
 }

@@ -1,4 +1,5 @@
-// The kernels, as they are defined: their numbers and types, the definitions and the statements, and their proofs. No function.
+// The kernels, as they are defined: their numbers and types, the definitions and the statements, and their proofs. No function but
+// those that convert the types.
 #![tactic(auto)]
 
 pub mod band;

@@ -1,7 +1,7 @@
 // A kernel's marks as they are handed out: a grid of boxes, or two lines by the ends of their pieces.
 
 // Boxes convolved: count + 1 marks along each axis, a side apart, in one plane.
-#[derive(Clone, Copy)]
+#[derive(Clone, Copy, Debug, PartialEq, Eq)]
 pub struct Boxes {
     pub plane: usize,
     pub count: usize,
@@ -9,7 +9,7 @@ pub struct Boxes {
 }
 
 // The rows of a line: where its first piece starts, where it is level, and a step past its last column.
-#[derive(Clone, Copy)]
+#[derive(Clone, Copy, Debug, PartialEq, Eq)]
 pub struct Line {
     pub edge: usize,
     pub level: usize,
@@ -17,8 +17,9 @@ pub struct Line {
 }
 
 // Two lines: the planes of their sloping pieces, whether a level piece lies between them, the columns where the pieces end,
-// and the rows of each line. The diamond's lines have no level piece, and go back where they turn.
-#[derive(Clone, Copy)]
+// and the rows of each line. The diamond's lines have no level piece, and go back where they turn: the last piece starts at back
+// either way, so no Option holds it.
+#[derive(Clone, Copy, Debug, PartialEq, Eq)]
 pub struct Outline {
     pub rising: usize,
     pub falling: usize,
@@ -31,7 +32,7 @@ pub struct Outline {
     pub bottom: Line,
 }
 
-#[derive(Clone, Copy)]
+#[derive(Clone, Copy, Debug, PartialEq, Eq)]
 pub enum Drawing {
     Grid(Boxes),
     Lines(Outline),

@@ -9,11 +9,11 @@ ghost use Rattle.plate_model.specs.Refusal.{returned};
 ghost use Rattle.plate_model.specs.Calls.{open_call, put_call, undo_call, fill_call, show_call};
 ghost use Rattle.plate_model.specs.Kept.{put_kept_call, undo_kept_call, show_kept_call};
 ghost use Rattle.plate_model.specs.Total.{total_call};
-ghost use Rattle.lens_c.specs.Interface.{state_in, lens_in, answer_out, left_out, shown_out, leaves_out, shows_out, refreshed_out};
+ghost use Rattle.lens_c.specs.Interface.{state_in, state_out, lens_in, answer_out, left_out, shown_out, leaves_out, shows_out, refreshed_out};
 ghost use Rattle.lens_c.specs.Interface.{leaves_kept_out, shown_kept_out, shows_kept_out, totals_out, totals_and_scratch};
 ghost use Rattle.lens_c.specs.Interface.{totalled_out};
 
-use plate::{Answer, Lens, Size, State, Totals};
+use plate::{Answer, Lens, Lent, Size, State, Totals};
 
 #[repr(C)]
 #[derive(Drop)]
@@ -49,43 +49,69 @@ pub struct LensTotals {
     pub light: u64,
 }
 
-fn state_in(s: LensState) -> State
-    ensures { result ≡ state_in s }
-{
-    State {
-        size: Size {
-            width: s.width,
-            height: s.height,
-            reach: s.reach,
-        },
-        count: s.count,
+impl From<LensState> for State {
+    ghost from_gives = { λ s t. t ≡ state_in s };
+
+    fn from(s: LensState) -> State {
+        State {
+            size: Size {
+                width: s.width,
+                height: s.height,
+                reach: s.reach,
+            },
+            count: s.count,
+        }
+    }
+}
+
+impl From<State> for LensState {
+    ghost from_gives = { λ s t. t ≡ state_out s };
+
+    fn from(s: State) -> LensState {
+        LensState {
+            width: s.size.width,
+            height: s.size.height,
+            reach: s.size.reach,
+            count: s.count,
+        }
+    }
+}
+
+impl From<LensLens> for Lens {
+    ghost from_gives = { λ l m. m ≡ lens_in l };
+
+    fn from(l: LensLens) -> Lens {
+        Lens {
+            opening: l.opening,
+            focal: l.focal,
+            focus: l.focus,
+            pitch: l.pitch,
+        }
     }
 }
 
 // An answer in the paper's numbers.
-fn answer_out(a: Answer) -> LensAnswer
-    ensures { result ≡ answer_out (returned a) }
-{
-    let outcome = a.outcome;
-    LensAnswer {
-        number: plate::state::number(outcome),
-        marks: a.marks,
-        state: LensState {
-            width: a.state.size.width,
-            height: a.state.size.height,
-            reach: a.state.size.reach,
-            count: a.state.count,
-        },
+impl From<Answer> for LensAnswer {
+    ghost from_gives = { λ a b. b ≡ answer_out (returned a) };
+
+    fn from(a: Answer) -> LensAnswer {
+        LensAnswer {
+            number: plate::state::number(a.outcome),
+            marks: a.marks,
+            state: a.state.into(),
+        }
     }
 }
 
-fn totals_out(t: Totals) -> LensTotals
-    ensures { result ≡ totals_out (returned t.answer) t.matte t.light }
-{
-    LensTotals {
-        answer: answer_out(t.answer),
-        matte: t.matte,
-        light: t.light,
+impl From<Totals> for LensTotals {
+    ghost from_gives = { λ t u. u ≡ totals_out (returned t.answer) t.matte t.light };
+
+    fn from(t: Totals) -> LensTotals {
+        LensTotals {
+            answer: t.answer.into(),
+            matte: t.matte,
+            light: t.light,
+        }
     }
 }
 
@@ -101,7 +127,12 @@ pub extern "C" fn lens_open(
     ensures { leaves_out result (lent_at_exit planes pixels log)
         ≡ left_out (open_call (size_from width height reach) (lent_at_entry planes pixels log)) }
 {
-    answer_out(plate::open::open(width, height, reach, planes, pixels, log))
+    let mut lent = Lent {
+        planes,
+        pixels,
+        log,
+    };
+    lent.open(width, height, reach).into()
 }
 
 #[unsafe(no_mangle)]
@@ -120,18 +151,13 @@ pub extern "C" fn lens_put(
     ensures { leaves_out result (lent_at_exit planes pixels log)
         ≡ left_out (put_call (state_in state) (ask x y value opacity shape radius) (lent_at_entry planes pixels log)) }
 {
-    answer_out(plate::put::put(
-        state_in(state),
-        x,
-        y,
-        value,
-        opacity,
-        shape,
-        radius,
+    let mut lent = Lent {
         planes,
         pixels,
         log,
-    ))
+    };
+    lent.put(state.into(), x, y, value, opacity, shape, radius)
+        .into()
 }
 
 #[unsafe(no_mangle)]
@@ -144,7 +170,12 @@ pub extern "C" fn lens_undo(
     ensures { leaves_out result (lent_at_exit planes pixels log)
         ≡ left_out (undo_call (state_in state) (lent_at_entry planes pixels log)) }
 {
-    answer_out(plate::undo::undo(state_in(state), planes, pixels, log))
+    let mut lent = Lent {
+        planes,
+        pixels,
+        log,
+    };
+    lent.undo(state.into()).into()
 }
 
 #[unsafe(no_mangle)]
@@ -165,23 +196,13 @@ pub extern "C" fn lens_fill(
         (inputs values.now opacities.now depths.now)
         (lent_at_entry planes pixels log)) }
 {
-    let through = Lens {
-        opening: lens.opening,
-        focal: lens.focal,
-        focus: lens.focus,
-        pitch: lens.pitch,
-    };
-    answer_out(plate::fill::fill(
-        state_in(state),
-        through,
-        shape,
-        values,
-        opacities,
-        depths,
+    let mut lent = Lent {
         planes,
         pixels,
         log,
-    ))
+    };
+    lent.fill(state.into(), lens.into(), shape, values, opacities, depths)
+        .into()
 }
 
 #[unsafe(no_mangle)]
@@ -195,7 +216,7 @@ pub extern "C" fn lens_show(
     ensures { shows_out result (views_at_exit scratch values mattes)
         ≡ shown_out (show_call (state_in state) planes.now (views_at_entry scratch values mattes)) }
 {
-    answer_out(plate::show::show(state_in(state), planes, scratch, values, mattes))
+    plate::show::show(state.into(), planes, scratch, values, mattes).into()
 }
 
 #[unsafe(no_mangle)]
@@ -211,7 +232,7 @@ pub extern "C" fn lens_show_kept(
         ≡ shown_kept_out
         (show_kept_call (state_in state) planes.now (views_at_entry scratch values mattes) sums.old) }
 {
-    answer_out(plate::kept::show_kept(state_in(state), planes, scratch, values, mattes, sums))
+    plate::kept::show_kept(state.into(), planes, scratch, values, mattes, sums).into()
 }
 
 #[unsafe(no_mangle)]
@@ -235,21 +256,24 @@ pub extern "C" fn lens_put_kept(
         (put_kept_call (state_in state) (ask x y value opacity shape radius) (lent_at_entry planes pixels log)
         (canvas_at_entry sums values mattes)) }
 {
-    answer_out(plate::kept::put_kept(
-        state_in(state),
+    let mut lent = Lent {
+        planes,
+        pixels,
+        log,
+    };
+    lent.put_kept(
+        state.into(),
         x,
         y,
         value,
         opacity,
         shape,
         radius,
-        planes,
-        pixels,
-        log,
         sums,
         values,
         mattes,
-    ))
+    )
+    .into()
 }
 
 #[unsafe(no_mangle)]
@@ -265,7 +289,12 @@ pub extern "C" fn lens_undo_kept(
     ensures { leaves_kept_out result (lent_at_exit planes pixels log) (canvas_at_exit sums values mattes)
         ≡ refreshed_out (undo_kept_call (state_in state) (lent_at_entry planes pixels log) (canvas_at_entry sums values mattes)) }
 {
-    answer_out(plate::kept::undo_kept(state_in(state), planes, pixels, log, sums, values, mattes))
+    let mut lent = Lent {
+        planes,
+        pixels,
+        log,
+    };
+    lent.undo_kept(state.into(), sums, values, mattes).into()
 }
 
 #[unsafe(no_mangle)]
@@ -273,5 +302,5 @@ pub extern "C" fn lens_total(state: LensState, planes: &[u64], scratch: &mut [u6
     ensures { totals_and_scratch result scratch.new
         ≡ totalled_out (total_call (state_in state) planes.now scratch.old) }
 {
-    totals_out(plate::total::total(state_in(state), planes, scratch))
+    plate::total::total(state.into(), planes, scratch).into()
 }

@@ -2,7 +2,8 @@
 -- say.
 use Rattle.std.specs.Prelude.{◌≡◌, List, [], ℕ, take}
 use Rattle.records_model.specs.declared.machine.Machine.{Machine}
-use Rattle.records_model.specs.Machine.{Buffers, fed, feed_all, Taking}
+use Rattle.records_model.specs.declared.buffers.Buffers.{Buffers}
+use Rattle.records_model.specs.Machine.{fed, feed_all, Taking}
 
 -- the machine and the buffers are what these bytes make of them, fed one after another
 pub record FedTo (m : Machine) (b : Buffers) (bytes : List ℕ) (after : Machine) (held : Buffers) : Type 0 where

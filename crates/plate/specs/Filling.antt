@@ -1,10 +1,10 @@
 -- How the code fills a plate: what all pixels of a layer share, what its loops count on, and what they have done after n pixels.
-use Rattle.std.specs.Prelude.{◌≡◌, ℕ, ◌+◌, ◌-◌, ◌*◌, ◌^◌, ◌<◌, ◌≤◌, min, true, List, map, length, slice_index}
+use Rattle.std.specs.Prelude.{◌≡◌, ℕ, ◌+◌, ◌-◌, ◌*◌, ◌^◌, ◌<◌, ◌≤◌, true, List, map, length, slice_index, Result, Ok, Err}
 use Rattle.kernels_model.specs.Fixed.{value_top, depth_top}
 use Rattle.kernels_model.specs.declared.shape.Shape.{Shape}
 use Rattle.kernels_model.specs.Shape.{shape_of, top_under}
 use Rattle.kernels_model.specs.declared.lens.Lens.{Lens}
-use Rattle.kernels_model.specs.Lens.{lawful_lens, blur}
+use Rattle.kernels_model.specs.Lens.{lawful_lens}
 use Rattle.plate_model.specs.Fixed.{planes_in_all}
 use Rattle.plate_model.specs.declared.size.Size.{Size}
 use Rattle.plate_model.specs.Layout.{padded, places}
@@ -13,23 +13,21 @@ use Rattle.plate_model.specs.declared.lent.LentLengths.{LentLengths}
 use Rattle.plate_model.specs.Lent.{Inputs}
 use Rattle.plate_model.specs.declared.word.Pixel.{Pixel}
 use Rattle.plate_model.specs.Word.{word_of}
-use Rattle.plate_model.specs.declared.state.Outcome.{Outcome}
-use Rattle.plate_model.specs.declared.state.Outcome.TheVariants.{Accepted, Refused}
+use Rattle.plate_model.specs.Refusal.{Outcome}
+use Rattle.plate_model.specs.declared.state.Refusal.{Refusal}
 use Rattle.plate_model.specs.Refusal.{sizes_check, lent_check, inputs_check, count_check, layer_check, fill_check}
 use Rattle.plate_model.specs.Asked.{known_shape, filled}
 use Rattle.plate_model.specs.Marks.{pixel_marks, lay_all, lay_grid}
 use Rattle.kernels_model.specs.Listed.{zeros, list_to}
 use Rattle.plate.specs.Frame.{frame_of}
 pub use Rattle.plate.specs.declared.layer.Layer.{Layer}
-pub use Rattle.plate.specs.declared.layer.LayerRead.{LayerRead}
-pub use Rattle.plate.specs.declared.layer.LayerRead.TheVariants.{ToFill, NoFill}
 
 -- THE INPUTS
 -- 1 to 3 of a fill, by lengths alone
 unfoldable pub fill_lengths : State → LentLengths → ℕ → ℕ → ℕ → Outcome
 fill_lengths s n values opacities depths =
     sizes_check s.size
-    (lent_check s.size n (inputs_check s.size values opacities depths (count_check s.count n.log Accepted)))
+    (lent_check s.size n (inputs_check s.size values opacities depths (count_check s.count n.log (Ok tt))))
 
 -- the largest number of 32 bits
 abbrev pub number_top : ℕ
@@ -40,59 +38,56 @@ abbrev pub layer_of : Size → Lens → Shape → Layer
 layer_of z l k = record { frame = frame_of z; lens = l; shape = k; top = top_under k z.reach }
 
 -- the layer, where its check accepts it
-abbrev pub read_by : Outcome → Layer → LayerRead
-read_by Accepted j = ToFill j
-read_by (Refused f) j = NoFill f
+abbrev pub read_by : Outcome → Layer → Result Layer Refusal
+read_by (Ok tt) j = Ok j
+read_by (Err f) j = Err f
 
 -- by 5, 6, 11, 12 and 17
-abbrev pub inputs_read : Size → Lens → ℕ → Inputs → LayerRead
+abbrev pub inputs_read : Size → Lens → ℕ → Inputs → Result Layer Refusal
 inputs_read z l k f = read_by (layer_check l k f) (layer_of z l (known_shape (shape_of k)))
 
 -- and by all of a fill's checks
-abbrev pub layer_read : State → Lens → ℕ → Inputs → LentLengths → LayerRead
+abbrev pub layer_read : State → Lens → ℕ → Inputs → LentLengths → Result Layer Refusal
 layer_read s l k f n = read_by (fill_check s l k f n) (layer_of s.size l (known_shape (shape_of k)))
 
 abbrev pub layer_size : Layer → Size
 layer_size j = j.frame.size
 
+abbrev pub place_in : Layer → ℕ → ℕ → ℕ
+place_in j x y = y * (layer_size j).width + x
+
 -- the pixel of a layer at a place
 abbrev pub pixel_of : Layer → Inputs → ℕ → Pixel
 pixel_of j f = filled (layer_size j) j.lens j.shape f
 
--- a pixel of a layer, from what a fill is given for it
-abbrev pub pixel_from : Layer → ℕ → ℕ → ℕ → Pixel
-pixel_from j v a d = record { value = v; opacity = a; shape = j.shape; radius = min j.top (blur j.lens d) }
-
 -- WHAT THE LOOPS COUNT ON
--- a lawful layer, and planes of n cells in all
-pub record Layable (j : Layer) (n : ℕ) : Type 0 where
+-- a lawful layer, and lawful inputs for as many pixels
+pub record Lawful (j : Layer) (f : Inputs) : Type 0 where
   pub framed : j.frame ≡ frame_of (layer_size j)
   pub top_is : j.top ≡ top_under j.shape (layer_size j).reach
   pub lens_lawful : lawful_lens j.lens ≡ true
-  pub planes_are : n ≡ planes_in_all * padded (layer_size j)
-
--- what a fill is given for the pixel at (x, y)
-pub record GivenAt (j : Layer) (x y value depth : ℕ) : Type 0 where
-  pub column_in : x < (layer_size j).width
-  pub row_in : y < (layer_size j).height
-  pub value_in : value ≤ value_top
-  pub depth_in : depth ≤ depth_top
-
--- a layer with as many pixels, and lawful inputs
-pub record Ready (j : Layer) (planes pixels : ℕ) (f : Inputs) : Type 0 where
-  pub layable : Layable j planes
-  pub pixels_are : pixels ≡ places (layer_size j)
   pub values_are : length f.values ≡ places (layer_size j)
   pub opacities_are : length f.opacities ≡ places (layer_size j)
   pub depths_are : length f.depths ≡ places (layer_size j)
   pub values_in : (i : ℕ) → slice_index f.values i ≤ value_top
   pub depths_in : (i : ℕ) → slice_index f.depths i ≤ depth_top
 
+-- planes of n cells in all for a layer
+abbrev pub Roomy : Layer → ℕ → Type 0
+Roomy j n = n ≡ planes_in_all * padded (layer_size j)
+
+-- a layer and its inputs, with planes and pixels
+pub record Ready (j : Layer) (planes pixels : ℕ) (f : Inputs) : Type 0 where
+  pub lawful : Lawful j f
+  pub planes_are : Roomy j planes
+  pub pixels_are : pixels ≡ places (layer_size j)
+
 -- WHAT THEY HAVE DONE
--- one pixel at (x, y): its marks laid, and its word
-pub record FilledOne (j : Layer) (x y : ℕ) (p : Pixel) (cells planes : List ℕ) (word : ℕ) : Type 0 where
-  pub laid : planes ≡ lay_all (layer_size j) cells (pixel_marks (layer_size j) (y * (layer_size j).width + x) p)
-  pub word_is : word ≡ word_of p
+-- the pixel at (x, y): its marks laid, and its word
+pub record FilledOne (j : Layer) (f : Inputs) (x y : ℕ) (cells planes : List ℕ) (word : ℕ) : Type 0 where
+  pub laid : planes
+      ≡ lay_all (layer_size j) cells (pixel_marks (layer_size j) (place_in j x y) (pixel_of j f (place_in j x y)))
+  pub word_is : word ≡ word_of (pixel_of j f (place_in j x y))
 
 -- the first n pixels of a layer: their marks laid on the cells, one pixel's after the other's, and their words stored
 pub record FilledTo (j : Layer) (f : Inputs) (cells planes pixels : List ℕ) (n : ℕ) : Type 0 where

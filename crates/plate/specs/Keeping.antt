@@ -1,23 +1,15 @@
 -- The second form of show: finished sums that are kept, and the pictures rounded from them.
-use Rattle.std.specs.Prelude.{◌≡◌, ℕ, ◌+◌, ◌*◌, ◌<◌, ◌≤◌, List, length, slice_index}
+use Rattle.std.specs.Prelude.{◌≡◌, ℕ, ◌+◌, ◌*◌, ◌<◌, ◌≤◌, List, length, slice_index, Ok}
 use Rattle.plate_model.specs.declared.size.Size.{Size}
 use Rattle.plate_model.specs.Layout.{sums_in_all}
 use Rattle.plate_model.specs.declared.state.State.{State}
 use Rattle.plate_model.specs.Lent.{Views}
-use Rattle.plate_model.specs.declared.state.Outcome.TheVariants.{Accepted}
 use Rattle.plate_model.specs.Calls.{answer_of}
 use Rattle.plate_model.specs.Kept.{shows_kept, show_kept_by}
 use Rattle.plate.specs.Passes.{Channel, matte_after, Written, row_start}
 use Rattle.plate.specs.Showing.{Image, BothIn, BothTo, sum_in, ShowReady}
 
 -- ONE ROW
--- its finished sums start at `light` and `matte` in the scratch, and have room from `first` and then from `second` on
-pub record KeepIn (scratch sums : List ℕ) (light matte first second width : ℕ) : Type 0 where
-  pub light_in : light + width ≤ length scratch
-  pub matte_in : matte + width ≤ length scratch
-  pub first_in : first + width ≤ second
-  pub second_in : second + width ≤ length sums
-
 -- light's are kept from `first` on and matte's from `second` on, and nothing else is changed
 abbrev pub RowKept : List ℕ → ℕ → ℕ → ℕ → ℕ → ℕ → List ℕ → List ℕ → Type 0
 RowKept scratch light matte first second width old new =
@@ -48,4 +40,4 @@ pub record ShowKeptReady (z : Size) (planes scratch values mattes sums : List �
 -- what it has done
 abbrev pub ShowKeptDone : State → List ℕ → Views → Views → List ℕ → List ℕ → Type 0
 ShowKeptDone state planes old new sums₀ sums =
-    shows_kept (answer_of Accepted 0 state) new sums ≡ show_kept_by Accepted state planes old sums₀
+    shows_kept (answer_of (Ok tt) 0 state) new sums ≡ show_kept_by (Ok tt) state planes old sums₀

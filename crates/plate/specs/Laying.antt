@@ -2,7 +2,6 @@
 use Rattle.std.specs.Prelude.{◌≡◌, ℕ, suc, ◌+◌, ◌-◌, ◌*◌, ◌%◌, ◌^◌, ◌<◌, ◌≤◌, List, [], ◌∷◌}
 use Rattle.kernels_model.specs.Fixed.{planes_each, level, margin}
 use Rattle.kernels_model.specs.Choice.{pick}
-use Rattle.kernels_model.specs.declared.mark.Boxes.{Boxes}
 use Rattle.kernels_model.specs.declared.mark.Outline.{Outline}
 use Rattle.kernels_model.specs.declared.mark.Line.{Line}
 use Rattle.kernels_model.specs.Drawing.{piece_marks}
@@ -12,13 +11,18 @@ use Rattle.kernels_model.specs.declared.share.Share.{Share}
 use Rattle.kernels_model.specs.Share.{share_parts}
 use Rattle.kernels_model.specs.declared.shape.Shape.{Shape}
 use Rattle.kernels_model.specs.Shape.{reach_of, top_under}
-use Rattle.kernels_model.specs.Mark.{Mark, mark, sign, choose, marks_to, tap_marks}
+use Rattle.kernels_model.specs.Mark.{Mark, mark, minus, sign, choose, marks_to, tap_marks}
 use Rattle.plate_model.specs.Fixed.{planes_in_all}
 use Rattle.plate_model.specs.declared.word.Pixel.{Pixel}
 use Rattle.plate_model.specs.Marks.{pixel_marks, lay_one}
 use Rattle.plate.specs.Frame.{Frame, frame_of}
 pub use Rattle.plate.specs.declared.lay.Amounts.{Amounts}
-pub use Rattle.plate.specs.declared.lay.Origin.{Origin}
+
+-- where a drawing lies in the planes: the cells of a padded plane, in a row and in all, and the one that it has as its corner
+pub record Origin : Type 0 where
+  pub wide : ℕ
+  pub padded : ℕ
+  pub corner : ℕ
 
 -- WORTHS
 -- c times a worth, wrapped
@@ -28,6 +32,11 @@ times w c = record { light = (w.light * c) % 2 ^ 64; matte = (w.matte * c) % 2 ^
 -- what a mark of factor 1 is worth, with the share or the remainder that it carries: "a × s, and in light times v as well"
 abbrev pub amounts_of : Pixel → ℕ → Amounts
 amounts_of p c = record { light = p.value * (p.opacity * c); matte = p.opacity * c }
+
+-- an amount is worth c times w, and its opposite d times
+pub record Opposite (w : Amounts) (c d : ℕ) (amounts : Amounts) : Type 0 where
+  pub start_is : amounts ≡ times w c
+  pub end_is : times amounts (minus 1) ≡ times w d
 
 -- MARKS
 -- the cell of a light plane at a column and a row of a drawing
@@ -53,9 +62,6 @@ factor n i = sign i * choose n i
 unfoldable pub grid_column : ℕ → ℕ → ℕ → ℕ → ℕ → ℕ → List Mark
 grid_column p n l x c k = marks_to (λ j. mark p x (margin + j * l) (c * factor n j) ∷ []) k
 
-abbrev pub column_marks : Boxes → ℕ → ℕ → List Mark
-column_marks b x c = grid_column b.plane b.count b.side x c (suc b.count)
-
 -- the level piece of a line, where there is one
 unfoldable pub level_marks : ℕ → ℕ → Outline → Line → List Mark
 level_marks c d o l = pick o.flat (piece_marks level o.turn l.level o.back l.level c d) []
@@ -76,12 +82,11 @@ unfoldable pub FewBoxes : Drawing → Type 0
 FewBoxes (Grid b) = (1 ≤ b.count) × (b.count ≤ 3)
 FewBoxes (Lines o) = Unit
 
--- a column of a grid of two or three boxes, and planes of n cells in all
-pub record ColumnIn (g : Origin) (b : Boxes) (x n : ℕ) : Type 0 where
-  pub marks_fit : MarksFit g n (column_marks b x 1)
-  pub last_in : margin + b.count * b.side < n
-  pub two_at_least : 2 ≤ b.count
-  pub three_at_most : b.count ≤ 3
+-- a column at x of the grid of n boxes of l cells, up to three of them
+pub record ColumnIn (g : Origin) (p n l x : ℕ) : Type 0 where
+  pub marks_in : AllIn g (grid_column p n l x 1 (suc n))
+  pub last_in : margin + n * l < planes_each * g.padded
+  pub few : n ≤ 3
 
 -- KERNELS
 -- a place (x, y) of a plate with its frame
@@ -106,13 +111,12 @@ abbrev pub own_marks : Shape → ℕ → List Mark
 own_marks s r = tap_marks s r (reach_of s r + margin) (reach_of s r + margin)
 
 -- PIXELS
--- a pixel at (x, y) whose radius keeps to the plate's reach, n cells in all planes, and its kernel's share at hand
-pub record PixelReady (f : Frame) (n x y : ℕ) (p : Pixel) (s : Share) : Type 0 where
-  pub placed : Placed f x y
+-- a pixel whose radius keeps to the plate's reach, n cells in all planes, and its kernel's share at hand
+pub record PixelReady (f : Frame) (n : ℕ) (p : Pixel) (s : Share) : Type 0 where
   pub planes_are : n ≡ planes_in_all * f.padded
   pub radius_fits : p.radius ≤ top_under p.shape f.size.reach
   pub share_is : s ≡ share_parts p.shape p.radius
 
--- its marks
+-- its marks at (x, y)
 abbrev pub marks_at : Frame → ℕ → ℕ → Pixel → List Mark
 marks_at f x y p = pixel_marks f.size (y * f.size.width + x) p

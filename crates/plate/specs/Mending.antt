@@ -1,11 +1,10 @@
 -- What the code of mending counts on, and what it has done after a cell, a row and all rows.
 use Rattle.std.specs.Prelude.{◌≡◌, ℕ, ◌+◌, ◌*◌, ◌/◌, ◌%◌, ◌^◌, ◌<◌, ◌≤◌, true, List, length, slice_index, slice_index_or, slice_set}
+use Rattle.std.specs.declared.ops.Range.{Range}
 use Rattle.kernels_model.specs.Fixed.{value_top, opacity_top}
 use Rattle.kernels_model.specs.Sum.{dist}
 use Rattle.kernels_model.specs.Mark.{minus}
 use Rattle.kernels_model.specs.Rounding.{shown_value, shown_matte}
-use Rattle.kernels_model.specs.declared.share.Share.{Share}
-use Rattle.kernels_model.specs.Share.{share_parts}
 use Rattle.kernels_model.specs.Band.{band_weight, FewTaps, BandOf}
 use Rattle.plate_model.specs.declared.size.Size.{Size}
 use Rattle.plate_model.specs.Layout.{places, sums_in_all}
@@ -15,9 +14,7 @@ use Rattle.plate_model.specs.declared.change.Change.{Change}
 use Rattle.plate_model.specs.Kept.{in_reach, kept_light, kept_matte, mended_light, mended_matte}
 use Rattle.plate_model.specs.Ready.{LawfulChange}
 use Rattle.plate.specs.Laying.{Amounts}
-use Rattle.plate.specs.Passes.{Written}
 pub use Rattle.plate.specs.declared.mend.Given.{Given}
-pub use Rattle.plate.specs.declared.mend.CellRange.{CellRange}
 
 -- ONE CELL
 -- what a pixel gives the row at abs (dy) from it
@@ -41,9 +38,12 @@ pub record CellIn (n place : ℕ) (old new : Given) (k : Canvas) : Type 0 where
   pub values_are : length k.values ≡ n
   pub mattes_are : length k.mattes ≡ n
 
--- what a pixel gives the matte sum of the cell at abs (dx)
+-- what a pixel gives the matte sum of the cell at abs (dx), and both its sums
 abbrev pub given_at : Given → ℕ → ℕ
 given_at g dx = g.opacity * band_weight g.band dx
+
+abbrev pub amounts_at : Given → ℕ → Amounts
+amounts_at g dx = record { light = g.value * given_at g dx; matte = given_at g dx }
 
 -- the sums of a cell, mended
 abbrev pub light_then : ℕ → ℕ → Given → Given → Canvas → ℕ
@@ -62,28 +62,20 @@ pub record CellDone (n place dx : ℕ) (old new : Given) (k k' : Canvas) : Type 
   pub mattes_are : k'.mattes ≡ slice_set k.mattes place (shown_matte (matte_then n place dx old new k))
 
 -- RUNS
--- what a pixel gives each cell of a row in which all have the same weight
-abbrev pub level_amounts : Given → Amounts
-level_amounts g = record { light = g.value * given_at g 0; matte = given_at g 0 }
-
--- a number is added to each sum of a run
-abbrev pub RunAdded : ℕ → ℕ → ℕ → List ℕ → List ℕ → Type 0
-RunAdded first count by old new = Written 1 count (λ c. first) (λ c i. (slice_index old (first + i) + by) % 2 ^ 64) old new
-
 -- a range of the row that starts at a place has its sums of light, and as many on those of matte
-pub record RunIn (n start : ℕ) (s : CellRange) (sums : List ℕ) : Type 0 where
-  pub from_in : start + s.first ≤ n
-  pub past_in : start + s.past ≤ n
+pub record RunIn (n start : ℕ) (s : Range ℕ) (sums : List ℕ) : Type 0 where
+  pub from_in : start + s.start ≤ n
+  pub past_in : start + s.end ≤ n
   pub sums_are : length sums ≡ 2 * n
 
 -- what a pixel gives is added to both, and nothing else is changed
-pub record RunGiven (n start : ℕ) (s : CellRange) (by : Amounts) (old new : List ℕ) : Type 0 where
+pub record RunGiven (n start : ℕ) (s : Range ℕ) (by : Amounts) (old new : List ℕ) : Type 0 where
   pub same : length new ≡ length old
-  pub light_in : (x : ℕ) → s.first ≤ x → x < s.past → slice_index new (start + x) ≡ (slice_index old (start + x) + by.light) % 2 ^ 64
-  pub matte_in : (x : ℕ) → s.first ≤ x → x < s.past
+  pub light_in : (x : ℕ) → s.start ≤ x → x < s.end → slice_index new (start + x) ≡ (slice_index old (start + x) + by.light) % 2 ^ 64
+  pub matte_in : (x : ℕ) → s.start ≤ x → x < s.end
       → slice_index new (n + (start + x)) ≡ (slice_index old (n + (start + x)) + by.matte) % 2 ^ 64
-  pub rest : (j : ℕ) → ((x : ℕ) → s.first ≤ x → x < s.past → ¬ (j ≡ start + x))
-      → ((x : ℕ) → s.first ≤ x → x < s.past → ¬ (j ≡ n + (start + x))) → slice_index new j ≡ slice_index old j
+  pub rest : (j : ℕ) → ((x : ℕ) → s.start ≤ x → x < s.end → ¬ (j ≡ start + x))
+      → ((x : ℕ) → s.start ≤ x → x < s.end → ¬ (j ≡ n + (start + x))) → slice_index new j ≡ slice_index old j
 
 -- CELLS OF THE IMAGE
 -- a change of a lawful plate, and sums and pictures of its lengths
@@ -92,11 +84,6 @@ pub record MendReady (z : Size) (c : Change) (k : Canvas) : Type 0 where
   pub sums_are : length k.sums ≡ sums_in_all z
   pub values_are : length k.values ≡ places z
   pub mattes_are : length k.mattes ≡ places z
-
--- the shares of both pixels' kernels
-pub record SharesOf (c : Change) (old new : Share) : Type 0 where
-  pub old_is : old ≡ share_parts c.old.shape c.old.radius
-  pub new_is : new ≡ share_parts c.new.shape c.new.radius
 
 -- a row of the plate, and what both pixels give it
 pub record RowToMend (z : Size) (c : Change) (row : ℕ) (old new : Given) (k : Canvas) : Type 0 where

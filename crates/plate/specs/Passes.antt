@@ -1,5 +1,5 @@
 -- Show's sums, row by row: what they keep in the scratch, and what a row does to it.
-use Rattle.std.specs.Prelude.{◌≡◌, ℕ, zero, suc, ◌+◌, ◌-◌, ◌*◌, ◌/◌, ◌%◌, ◌^◌, ◌<◌, ◌≤◌, List, [], ◌∷◌, length, set, ◌≢◌, slice_index, slice_index_or, slice_set}
+use Rattle.std.specs.Prelude.{◌≡◌, ℕ, zero, suc, ◌+◌, ◌-◌, ◌*◌, ◌/◌, ◌%◌, ◌^◌, ◌<◌, ◌≤◌, List, [], ◌∷◌, length, ◌≢◌, slice_index, slice_index_or, slice_set}
 use Rattle.kernels_model.specs.Fixed.{planes_each, level, second_box, third_box}
 use Rattle.kernels_model.specs.Choice.{within}
 use Rattle.kernels_model.specs.Sum.{sum, Row, Plane, Planes, across, down, add, slope, chain}
@@ -121,33 +121,6 @@ pub record InOrder (starts : Starts) (columns scratch planes : ℕ) : Type 0 whe
   pub down : starts.down + columns ≤ scratch
   pub marks : starts.marks + third_box * starts.apart + columns ≤ planes
 
--- a cell is added to, and what it then holds is handed out
-pub record Added (old new : List ℕ) (cell by result : ℕ) : Type 0 where
-  pub sum_is : result ≡ (slice_index old cell + by) % 2 ^ 64
-  pub cells : new ≡ slice_set old cell result
-
--- two lines lie in the scratch, and a mark for each in the planes
-pub record LinesIn (one two mark-one mark_two scratch planes : ℕ) : Type 0 where
-  pub one_first : one < two
-  pub lines_in : two < scratch
-  pub mark_one_in : mark-one < planes
-  pub mark_two_in : mark_two < planes
-
--- they take their marks on, and what they then hold is handed out, added
-pub record MarksOn (planes old new : List ℕ) (one two mark-one mark_two result : ℕ) : Type 0 where
-  pub sum_is : result
-      ≡ ((slice_index old one + slice_index planes mark-one) % 2 ^ 64 + (slice_index old two + slice_index planes mark_two) % 2 ^ 64) % 2 ^ 64
-  pub cells : new
-      ≡ set (slice_set old one ((slice_index old one + slice_index planes mark-one) % 2 ^ 64)) two
-      ((slice_index old two + slice_index planes mark_two) % 2 ^ 64)
-
--- their marks are taken off, and what they held before is handed out, added
-pub record MarksOff (planes old new : List ℕ) (one two mark-one mark_two result : ℕ) : Type 0 where
-  pub sum_is : result ≡ (slice_index old one + slice_index old two) % 2 ^ 64
-  pub cells : new
-      ≡ set (slice_set old one ((slice_index old one + (2 ^ 64 - 1) * slice_index planes mark-one) % 2 ^ 64)) two
-      ((slice_index old two + (2 ^ 64 - 1) * slice_index planes mark_two) % 2 ^ 64)
-
 -- a row's mark in a plane, and all of them
 abbrev pub mark_at : List ℕ → ℕ → ℕ → ℕ → ℕ
 mark_at planes mark apart plane = slice_index planes (mark + plane * apart)
@@ -155,21 +128,16 @@ mark_at planes mark apart plane = slice_index planes (mark + plane * apart)
 abbrev pub marks_in : List ℕ → Starts → ℕ → Row
 marks_in planes starts plane = λ x. mark_at planes (starts.marks + x) starts.apart plane
 
--- the sums of the box planes at a column lie in the scratch, and their marks in the planes
-pub record BoxesIn (third second mark apart scratch planes : ℕ) : Type 0 where
-  pub third_first : third < second
-  pub sums_in : second < scratch
-  pub marks_in_fact : mark + third_box * apart < planes
-
 -- the sums across go on, and two sums down with them
-pub record BoxesMet (planes old new : List ℕ) (third second mark apart : ℕ) (sums next : Across) : Type 0 where
-  pub third_is : next.third ≡ (sums.third + mark_at planes mark apart third_box) % 2 ^ 64
+pub record BoxesMet (planes old new : List ℕ) (starts : Starts) (x : ℕ) (sums next : Across) : Type 0 where
+  pub third_is : next.third ≡ (sums.third + marks_in planes starts third_box x) % 2 ^ 64
   pub second_is : next.second
-      ≡ (sums.second + ((slice_index old third + next.third) % 2 ^ 64 + mark_at planes mark apart second_box)) % 2 ^ 64
+      ≡ (sums.second + ((slice_index old (starts.third + x) + next.third) % 2 ^ 64 + marks_in planes starts second_box x)) % 2 ^ 64
   pub level_is : next.level
-      ≡ (sums.level + ((slice_index old second + next.second) % 2 ^ 64 + mark_at planes mark apart level)) % 2 ^ 64
+      ≡ (sums.level + ((slice_index old (starts.second + x) + next.second) % 2 ^ 64 + marks_in planes starts level x)) % 2 ^ 64
   pub cells : new
-      ≡ slice_set (slice_set old third ((slice_index old third + next.third) % 2 ^ 64)) second ((slice_index old second + next.second) % 2 ^ 64)
+      ≡ slice_set (slice_set old (starts.third + x) ((slice_index old (starts.third + x) + next.third) % 2 ^ 64)) (starts.second + x)
+      ((slice_index old (starts.second + x) + next.second) % 2 ^ 64)
 
 -- a row summed across, on what is kept of the rows above it
 unfoldable pub onto : List ℕ → ℕ → Row → Row

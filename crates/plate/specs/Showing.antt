@@ -1,5 +1,5 @@
 -- Show's two channels side by side, light and matte, and the image that it shows of them.
-use Rattle.std.specs.Prelude.{◌≡◌, ℕ, ◌+◌, ◌*◌, ◌%◌, ◌^◌, ◌<◌, ◌≤◌, List, length, slice_index}
+use Rattle.std.specs.Prelude.{◌≡◌, ℕ, ◌+◌, ◌*◌, ◌%◌, ◌^◌, ◌<◌, ◌≤◌, List, length, slice_index, Ok}
 use Rattle.kernels_model.specs.Fixed.{margin}
 use Rattle.kernels_model.specs.Sum.{finish}
 use Rattle.kernels_model.specs.Rounding.{shown_value, shown_matte}
@@ -9,7 +9,6 @@ use Rattle.plate_model.specs.declared.size.Size.{Size}
 use Rattle.plate_model.specs.Layout.{wide, high, padded, places}
 use Rattle.plate_model.specs.declared.state.State.{State}
 use Rattle.plate_model.specs.Lent.{Views}
-use Rattle.plate_model.specs.declared.state.Outcome.TheVariants.{Accepted}
 use Rattle.plate_model.specs.Calls.{answer_of, shown, show_by}
 use Rattle.plate.specs.Passes.{Channel, sums_end, marks_end, matte_after, planes_in, Written, SummedTo}
 pub use Rattle.plate.specs.declared.show.Image.{Image}
@@ -48,14 +47,26 @@ pub record BothSummed (light : Channel) (planes old new : List ℕ) (row : ℕ) 
   pub to : BothTo light planes new row
 
 -- THE IMAGE
--- a row of it, from a place on, and the sums that it shows are there
-pub record RowIn (scratch values mattes : List ℕ) (light matte first width : ℕ) : Type 0 where
-  pub values_in : first + width ≤ length values
-  pub mattes_in : first + width ≤ length mattes
-  pub light_in : light + width ≤ length scratch
-  pub matte_in : matte + width ≤ length scratch
+-- that of a plate
+abbrev pub image_of : Size → Image
+image_of z = record { first = z.reach + margin; width = z.width; height = z.height }
 
--- it shows them
+-- it ends at the last column summed, and both channels' sums are in the scratch
+pub record SumsOfRow (image : Image) (light : Channel) (scratch : ℕ) : Type 0 where
+  pub some : 0 < light.high
+  pub columns_are : image.first + image.width ≡ light.columns
+  pub sums_in : sums_end (matte_after light) ≤ scratch
+  pub scratch_low : scratch < 2 ^ 64
+  pub marks_low : marks_end light < 2 ^ 64
+
+-- a run of cells shows its sums
+pub record RowRounded (light matte values mattes : List ℕ) : Type 0 where
+  pub values_long : length values ≡ length light
+  pub mattes_long : length mattes ≡ length light
+  pub values_are : (x : ℕ) → x < length light → slice_index values x ≡ shown_value (slice_index light x) (slice_index matte x)
+  pub mattes_are : (x : ℕ) → x < length light → slice_index mattes x ≡ shown_matte (slice_index matte x)
+
+-- in lists, a row from a place on shows the sums that lie from others on
 pub record RowShown (scratch : List ℕ) (light matte first width : ℕ) (values₀ values mattes₀ mattes : List ℕ) : Type 0 where
   pub in_values : Written 1 width (λ c. first)
       (λ c x. shown_value (slice_index scratch (light + x)) (slice_index scratch (matte + x))) values₀ values
@@ -97,4 +108,4 @@ pub record ShowReady (z : Size) (planes scratch values mattes : List ℕ) : Type
 -- what an accepted show has done
 abbrev pub ShowDone : State → List ℕ → Views → Views → Type 0
 ShowDone state planes old new =
-    shown (answer_of Accepted 0 state) new.scratch new.values new.mattes ≡ show_by Accepted state planes old
+    shown (answer_of (Ok tt) 0 state) new.scratch new.values new.mattes ≡ show_by (Ok tt) state planes old

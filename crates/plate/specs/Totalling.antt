@@ -1,8 +1,7 @@
 -- A total: all finished cells of a channel, row by row.
-use Rattle.std.specs.Prelude.{◌≡◌, ℕ, ◌%◌, ◌^◌, List, length}
+use Rattle.std.specs.Prelude.{◌≡◌, ℕ, ◌%◌, ◌^◌, List, length, Ok}
 use Rattle.kernels_model.specs.Sum.{sum, finish}
 use Rattle.plate_model.specs.declared.state.State.{State}
-use Rattle.plate_model.specs.declared.state.Outcome.TheVariants.{Accepted}
 use Rattle.plate_model.specs.declared.total.Totals.{Totals}
 use Rattle.plate_model.specs.Total.{totalled, total_by}
 use Rattle.plate.specs.Frame.{Frame}
@@ -24,4 +23,4 @@ pub record AddedUp (channel : Channel) (planes old new : List ℕ) (rows result 
 
 -- what an accepted total has done
 abbrev pub TotalDone : State → List ℕ → List ℕ → List ℕ → Totals → Type 0
-TotalDone state planes old new result = totalled result new ≡ total_by Accepted state planes old
+TotalDone state planes old new result = totalled result new ≡ total_by (Ok tt) state planes old

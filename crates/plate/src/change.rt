@@ -1,86 +1,55 @@
 // What a put or an undo is to change, read before anything is touched.
-ghost use Rattle.std.specs.Prelude.{◌≡◌, length};
-ghost use Rattle.plate_model.specs.Lent.{lent_lengths};
+ghost use Rattle.std.specs.Prelude.{◌≡◌};
+ghost use Rattle.plate_model.specs.Lent.{lengths_of};
 ghost use Rattle.plate_model.specs.Change.{put_read, undo_read};
 
-use crate::check::{PixelRead, check_put, check_undo};
+use crate::check::{check_put, check_undo};
+use crate::lent::Lent;
+use crate::size::PlateSize;
 use crate::word::{unpack, unpack_entry};
-use plate_model::change::{Change, ChangeRead};
-use plate_model::lent::{Ask, LentLengths};
-use plate_model::state::{Outcome, Refusal, State};
-use plate_model::word::{EntryRead, Unpacked};
+use plate_model::change::Change;
+use plate_model::lent::Ask;
+use plate_model::state::{Refusal, State};
 
-// What a put is to change, by the lengths of planes and log and by the pixels.
-pub(crate) fn read_put(
-    state: State,
-    ask: Ask,
-    planes: usize,
-    pixels: &[u64],
-    log: usize,
-) -> ChangeRead
-    ensures { result ≡ put_read state ask (lent_lengths planes (length pixels.now) log) pixels.now }
-{
-    let lengths = LentLengths {
-        planes: planes,
-        pixels: pixels.len(),
-        log: log,
-    };
-    match check_put(state, ask, lengths) {
-        PixelRead::ToPut(new) => {
-            let x = ask.x;
-            let y = ask.y;
-            let place = y * state.size.width + x;
-            let Unpacked::Whole(old) = unpack(pixels[place], state.size.reach) else {
-                return ChangeRead::NoChange(Refusal::StoredWord);
-            };
-            ChangeRead::ToChange(Change {
-                place: place,
-                x: x,
-                y: y,
-                old: old,
-                new: new,
-            })
-        }
-        PixelRead::NoPut(why) => ChangeRead::NoChange(why),
-    }
-}
+// Both reads are inlined: what they answer would go through memory otherwise.
+impl Lent<'_> {
+    ghost use Rattle.plate.specs.Lending.{lent_of};
 
-// What an undo is to change, by the length of the planes, the pixels and the log: the pixel of the last entry is to come back to
-// its place.
-pub(crate) fn read_undo(state: State, planes: usize, pixels: &[u64], log: &[u64]) -> ChangeRead
-    ensures { result
-        ≡ undo_read state (lent_lengths planes (length pixels.now) (length log.now)) pixels.now
-        log.now }
-{
-    let lengths = LentLengths {
-        planes: planes,
-        pixels: pixels.len(),
-        log: log.len(),
-    };
-    let check = check_undo(state, lengths);
-    if let Outcome::Refused(why) = check {
-        return ChangeRead::NoChange(why);
+    // What a put is to change, by the lengths and by the pixels.
+    #[inline(always)]
+    pub(crate) fn read_put(&self, state: State, ask: Ask) -> Result<Change, Refusal>
+        ensures { result ≡ put_read state ask (lengths_of (lent_of self.now)) self.now.pixels.now }
+    {
+        let lengths = self.lengths();
+        let new = check_put(state, ask, lengths)?;
+        let place = ask.y * state.size.width + ask.x;
+        let old = unpack(self.pixels[place], state.size.reach).ok_or(Refusal::StoredWord)?;
+        Ok(Change {
+            place,
+            x: ask.x,
+            y: ask.y,
+            old,
+            new,
+        })
     }
-    let size = state.size;
-    let count = state.count;
-    let last = count - 1;
-    let word = log[last];
-    let EntryRead::Logged(entry) = unpack_entry(word, size) else {
-        return ChangeRead::NoChange(Refusal::StoredWord);
-    };
-    let place = entry.place;
-    let Unpacked::Whole(old) = unpack(pixels[place], size.reach) else {
-        return ChangeRead::NoChange(Refusal::StoredWord);
-    };
-    let new = entry.pixel;
-    let width = size.width;
-    let x = place % width;
-    let y = place / width;
-    ChangeRead::ToChange(Change {
-        place: place,
-        x: x,
-        y: y,
-        old: old,
-        new: new,
-    })
+
+    // What an undo is to change, by the lengths, the pixels and the log: the pixel of the last entry is to come back to its place.
+    #[inline(always)]
+    pub(crate) fn read_undo(&self, state: State) -> Result<Change, Refusal>
+        ensures { result ≡ undo_read state (lengths_of (lent_of self.now)) self.now.pixels.now self.now.log.now }
+    {
+        let lengths = self.lengths();
+        check_undo(state, lengths)?;
+        let size = state.size;
+        let word = self.log[state.count - 1];
+        let entry = unpack_entry(word, PlateSize { size }).ok_or(Refusal::StoredWord)?;
+        let old = unpack(self.pixels[entry.place], size.reach).ok_or(Refusal::StoredWord)?;
+        Ok(Change {
+            place: entry.place,
+            x: entry.place % size.width,
+            y: entry.place / size.width,
+            old,
+            new: entry.pixel,
+        })
+    }
 }

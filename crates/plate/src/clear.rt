@@ -6,7 +6,5 @@ ghost use Rattle.kernels_model.specs.Listed.{zeros};
 pub(crate) fn clear(cells: &mut [u64])
     ensures { cells.new ≡ zeros (length cells.old) }
 {
-    for i in 0..cells.len() {
-        cells[i] = 0;
-    }
+    cells.fill(0);
 }

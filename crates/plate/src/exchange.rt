@@ -1,39 +1,33 @@
 // One pixel put in the place of another: what a put and an undo have in common.
 ghost use Rattle.std.specs.Prelude.{◌≡◌, ◌<◌, length};
-ghost use Rattle.plate_model.specs.Kernel.{mark_count};
 ghost use Rattle.plate_model.specs.Marks.{exchanged};
 ghost use Rattle.plate_model.specs.Ready.{Changeable};
 ghost use Rattle.plate.specs.Exchange.{Changed};
 
-use crate::lay::{lay_pixel, take_pixel};
-use crate::size::frame_of;
+use crate::lay::{MINUS_ONE, Site};
+use crate::size::PlateSize;
 use crate::word::pack;
+use kernels::shape::mark_count;
+use kernels::share::share_of;
 use plate_model::change::Change;
 use plate_model::size::Size;
-use plate_model::word::Pixel;
-
-// The marks of a pixel's kernel.
-fn mark_count(p: Pixel) -> u32
-    ensures { result ≡ mark_count p }
-{
-    let shape = p.shape;
-    kernels::shape::mark_count(shape)
-}
 
 // Takes the marks of the old pixel off, and lays those of the new one.
 fn exchange_marks(planes: &mut [u64], size: Size, change: Change)
     requires { Changeable size change (length planes.old) }
     ensures { planes.new ≡ exchanged size change.place change.old change.new planes.old }
 {
-    let frame = frame_of(size);
+    let site = Site {
+        frame: PlateSize { size }.frame(),
+        x: change.x,
+        y: change.y,
+    };
     let old = change.old;
     let new = change.new;
-    let old_shape = old.shape;
-    let new_shape = new.shape;
-    let old_share = kernels::share::share_of(old_shape, old.radius);
-    let new_share = kernels::share::share_of(new_shape, new.radius);
-    take_pixel(planes, frame, change.x, change.y, old, old_share);
-    lay_pixel(planes, frame, change.x, change.y, new, new_share);
+    let old_share = share_of(old.shape, old.radius);
+    let new_share = share_of(new.shape, new.radius);
+    site.lay_pixel(planes, old, old_share, MINUS_ONE);
+    site.lay_pixel(planes, new, new_share, 1);
 }
 
 // Replaces a pixel, its marks and its word, and answers the marks moved.
@@ -44,11 +38,6 @@ pub(crate) fn exchange(size: Size, change: Change, planes: &mut [u64], pixels: &
         pixels.new }
 {
     exchange_marks(planes, size, change);
-    let place = change.place;
-    let old = change.old;
-    let new = change.new;
-    pixels[place] = pack(new);
-    let gone = mark_count(old);
-    let come = mark_count(new);
-    gone + come
+    pixels[change.place] = pack(change.new);
+    mark_count(change.old.shape) + mark_count(change.new.shape)
 }

@@ -1,13 +1,13 @@
 // The sums that finish a channel's planes, in one pass over its rows. What a sum hands from row to row it keeps in the lent
 // scratch, one cell for each column or for each line of a slope, and reads and raises it there: no sum has a copy of a row or a
-// column for itself.
-ghost use Rattle.std.specs.Prelude.{◌≡◌, ◌+◌, ◌%◌, ◌^◌, ◌<◌, length};
-ghost use Rattle.plate.specs.Passes.{sums_end, marks_end, starts_at, matte_after, Added, LinesIn, MarksOn, MarksOff, BoxesIn};
-ghost use Rattle.plate.specs.Passes.{BoxesMet, InOrder, RowSummed, RowLaid, ChannelIn, RowReady, Summed};
+// column for itself. Scratch and planes are two parameters of each function: a struct that held them would have to promise, for
+// each call, that it still holds the same ones.
+ghost use Rattle.std.specs.Prelude.{◌≡◌, ◌+◌, ◌-◌, ◌*◌, ◌%◌, ◌^◌, ◌<◌, ◌≤◌, length};
+ghost use Rattle.kernels_model.specs.Fixed.{third_box};
+ghost use Rattle.plate.specs.Passes.{sums_end, marks_end, starts_at, matte_after, marks_in, BoxesMet, InOrder, RowSummed, RowLaid};
+ghost use Rattle.plate.specs.Passes.{ChannelIn, RowReady, Summed};
 
-use crate::clear::clear;
 use kernels_model::fixed::{LEVEL, PLANES_EACH, SECOND_BOX, THIRD_BOX};
-use std::num::{wrapping_add_u64, wrapping_sub_u64};
 
 // The planes of the slopes −2, −1, 1 and 2. A line of a slope below 0 rises to the right.
 const RISE_TWO: usize = LEVEL - 2;
@@ -52,224 +52,182 @@ pub(crate) struct Across {
     pub level: u64,
 }
 
-// A row's lines lie where those of the row before it lie, a column further: a line keeps its cell, and nothing moves.
-pub(crate) fn starts_at(channel: Channel, row: usize) -> Starts
-    requires { (row < channel.high) × (sums_end channel < 2 ^ 64) × (marks_end channel < 2 ^ 64) }
-    ensures { result ≡ starts_at channel row }
-{
-    let columns = channel.columns;
-    let high = channel.high;
-    let half = (high + 1) / 2;
-    let ones = columns + high + 1;
-    let twos = columns + half;
-    let side = (row % 2) * twos;
-    let third = channel.sums;
-    let falling_one = third + 2 * columns;
-    let falling_two = falling_one + ones;
-    let rising_one = falling_two + 2 * twos;
-    let rising_two = rising_one + ones;
-    Starts {
-        third: third,
-        second: third + columns,
-        falling_one: falling_one + (high - row),
-        falling_two: falling_two + side + (half - row / 2),
-        rising_one: rising_one + row,
-        rising_two: rising_two + side + row / 2,
-        down: rising_two + 2 * twos,
-        marks: channel.marks + row * channel.wide,
-        apart: channel.wide * high,
+impl Channel {
+    // A row's lines lie where those of the row before it lie, a column further: a line keeps its cell, and nothing moves.
+    #[tactic(auto, unfolding(crate::specs::Passes::starts_at))]
+    pub(crate) fn starts_at(self, row: usize) -> Starts
+        requires { (row < self.high) × (sums_end self < 2 ^ 64) × (marks_end self < 2 ^ 64) }
+        ensures { result ≡ starts_at self row }
+    {
+        let columns = self.columns;
+        let high = self.high;
+        let half = (high + 1) / 2;
+        let ones = columns + high + 1;
+        let twos = columns + half;
+        let side = (row % 2) * twos;
+        let third = self.sums;
+        let falling_one = third + 2 * columns;
+        let falling_two = falling_one + ones;
+        let rising_one = falling_two + 2 * twos;
+        let rising_two = rising_one + ones;
+        Starts {
+            third,
+            second: third + columns,
+            falling_one: falling_one + (high - row),
+            falling_two: falling_two + side + (half - row / 2),
+            rising_one: rising_one + row,
+            rising_two: rising_two + side + row / 2,
+            down: rising_two + 2 * twos,
+            marks: self.marks + row * self.wide,
+            apart: self.wide * high,
+        }
+    }
+
+    // Matte, when light's sums and planes come right before its own.
+    #[tactic(auto, unfolding(crate::specs::Passes::starts_at))]
+    pub(crate) fn matte_after(self) -> Channel
+        requires { (0 < self.high) × (sums_end self < 2 ^ 64) × (marks_end self < 2 ^ 64) }
+        ensures { result ≡ matte_after self }
+    {
+        let starts = self.starts_at(0);
+        Channel {
+            columns: self.columns,
+            wide: self.wide,
+            high: self.high,
+            sums: starts.down + self.columns,
+            marks: self.marks + PLANES_EACH * starts.apart,
+        }
+    }
+
+    // A channel's sums before the first row, whatever the scratch held. Rising lines have all their marks then: the sum of a line
+    // from its foot to a row is what is left of it when the rows above that row have taken their marks off. So the sums down need
+    // no second pass over the rows.
+    #[tactic(auto, unfolding(crate::specs::Passes::starts_at))]
+    pub(crate) fn start_sums(self, scratch: &mut [u64], planes: &[u64])
+        requires { ChannelIn self scratch.old planes.now }
+        ensures { Summed self planes.now scratch.old scratch.new 0 }
+    {
+        let end = self.starts_at(0).down + self.columns;
+        scratch[self.sums..end].fill(0);
+        for row in (0..self.high).rev() {
+            self.starts_at(row).lay_row(scratch, planes, self.columns);
+        }
+    }
+
+    // A channel's sums, one row further.
+    pub(crate) fn sum_next(self, scratch: &mut [u64], planes: &[u64], row: usize)
+        requires { RowReady self scratch.old planes.now row }
+        ensures { Summed self planes.now scratch.old scratch.new (row + 1) }
+    {
+        self.starts_at(row).sum_row(scratch, planes, self.columns);
     }
 }
 
-// Matte, when light's sums and planes come right before its own.
-pub(crate) fn matte_after(light: Channel) -> Channel
-    requires { (0 < light.high) × (sums_end light < 2 ^ 64) × (marks_end light < 2 ^ 64) }
-    ensures { result ≡ matte_after light }
-{
-    let starts = starts_at(light, 0);
-    Channel {
-        columns: light.columns,
-        wide: light.wide,
-        high: light.high,
-        sums: starts.down + light.columns,
-        marks: light.marks + PLANES_EACH * starts.apart,
+impl Starts {
+    // The row's mark in a plane at a column.
+    fn mark(self, planes: &[u64], plane: usize, x: usize) -> u64
+        requires plane_in { plane ≤ third_box }
+        requires mark_in { self.marks + third_box * self.apart + x < length planes.now }
+        ensures { result ≡ marks_in planes.now self plane x }
+    {
+        planes[self.marks + x + plane * self.apart]
+    }
+
+    // The box planes at a column: third goes into second, and that into the level plane, each summed across and down on the way.
+    fn add_boxes(self, scratch: &mut [u64], planes: &[u64], x: usize, sums: Across) -> Across
+        requires { InOrder self (x + 1) (length scratch.old) (length planes.now) }
+        ensures { BoxesMet planes.now scratch.old scratch.new self x sums result }
+    {
+        let third = sums.third.wrapping_add(self.mark(planes, THIRD_BOX, x));
+        let third_down = add_to(&mut scratch[self.third + x], third);
+        let second = add_three(sums.second, third_down, self.mark(planes, SECOND_BOX, x));
+        let second_down = add_to(&mut scratch[self.second + x], second);
+        let level = add_three(sums.level, second_down, self.mark(planes, LEVEL, x));
+        Across {
+            third,
+            second,
+            level,
+        }
+    }
+
+    // One row of a channel. All its sums go in one loop, so that the sum down of a cell is read and stored once. A falling line
+    // counts with its mark, and a rising line before its mark is taken off. The seven sums of a column lie in one slice and its
+    // seven marks in another, so that a loop over both at once would zip fourteen parts of them: it goes by the column.
+    fn sum_row(self, scratch: &mut [u64], planes: &[u64], columns: usize)
+        requires { InOrder self columns (length scratch.old) (length planes.now) }
+        ensures { RowSummed planes.now scratch.old scratch.new self columns }
+    {
+        let mut sums = Across {
+            third: 0,
+            second: 0,
+            level: 0,
+        };
+        for x in 0..columns {
+            sums = self.add_boxes(scratch, planes, x, sums);
+            let falling_one = add_to(
+                &mut scratch[self.falling_one + x],
+                self.mark(planes, FALL_ONE, x),
+            );
+            let falling_two = add_to(
+                &mut scratch[self.falling_two + x],
+                self.mark(planes, FALL_TWO, x),
+            );
+            let rising_one = take_off(
+                &mut scratch[self.rising_one + x],
+                self.mark(planes, RISE_ONE, x),
+            );
+            let rising_two = take_off(
+                &mut scratch[self.rising_two + x],
+                self.mark(planes, RISE_TWO, x),
+            );
+            let falling = falling_one.wrapping_add(falling_two);
+            let rising = rising_one.wrapping_add(rising_two);
+            add_to(
+                &mut scratch[self.down + x],
+                add_three(sums.level, falling, rising),
+            );
+        }
+    }
+
+    // One row of marks onto the rising lines that it meets, by the column as in the sums.
+    fn lay_row(self, scratch: &mut [u64], planes: &[u64], columns: usize)
+        requires { InOrder self columns (length scratch.old) (length planes.now) }
+        ensures { RowLaid planes.now scratch.old scratch.new self columns }
+    {
+        for x in 0..columns {
+            add_to(
+                &mut scratch[self.rising_one + x],
+                self.mark(planes, RISE_ONE, x),
+            );
+            add_to(
+                &mut scratch[self.rising_two + x],
+                self.mark(planes, RISE_TWO, x),
+            );
+        }
     }
 }
 
 fn add_three(one: u64, two: u64, three: u64) -> u64
     ensures { result ≡ (one + (two + three)) % 2 ^ 64 }
 {
-    wrapping_add_u64(one, wrapping_add_u64(two, three))
+    one.wrapping_add(two.wrapping_add(three))
 }
 
 // Adds to a cell, and hands out what it then holds.
-fn add_to(cells: &mut [u64], cell: usize, by: u64) -> u64
-    requires { cell < length cells.old }
-    ensures { Added cells.old cells.new cell by result }
+fn add_to(cell: &mut u64, by: u64) -> u64
+    ensures sum_is { result ≡ (cell.old + by) % 2 ^ 64 }
+    ensures cell_is { cell.new ≡ result }
 {
-    let sum = wrapping_add_u64(cells[cell], by);
-    cells[cell] = sum;
-    sum
+    *cell = cell.wrapping_add(by);
+    *cell
 }
 
-// Two lines take a mark on each, and what they then hold is handed out, added.
-fn add_marks(
-    scratch: &mut [u64],
-    planes: &[u64],
-    one: usize,
-    two: usize,
-    mark_one: usize,
-    mark_two: usize,
-) -> u64
-    requires { LinesIn one two mark_one mark_two (length scratch.old) (length planes.now) }
-    ensures { MarksOn planes.now scratch.old
-        scratch.new one two mark_one mark_two result }
+// Takes off a cell, and hands out what it held before.
+fn take_off(cell: &mut u64, by: u64) -> u64
+    ensures held_is { result ≡ cell.old }
+    ensures cell_is { cell.new ≡ (cell.old + (2 ^ 64 - 1) * by) % 2 ^ 64 }
 {
-    let sum_one = wrapping_add_u64(scratch[one], planes[mark_one]);
-    let sum_two = wrapping_add_u64(scratch[two], planes[mark_two]);
-    scratch[one] = sum_one;
-    scratch[two] = sum_two;
-    wrapping_add_u64(sum_one, sum_two)
-}
-
-// Two lines have a mark taken off each, and what they held before is handed out, added.
-fn take_marks_off(
-    scratch: &mut [u64],
-    planes: &[u64],
-    one: usize,
-    two: usize,
-    mark_one: usize,
-    mark_two: usize,
-) -> u64
-    requires { LinesIn one two mark_one mark_two (length scratch.old) (length planes.now) }
-    ensures { MarksOff planes.now scratch.old
-        scratch.new one two mark_one mark_two result }
-{
-    let held_one = scratch[one];
-    let held_two = scratch[two];
-    scratch[one] = wrapping_sub_u64(held_one, planes[mark_one]);
-    scratch[two] = wrapping_sub_u64(held_two, planes[mark_two]);
-    wrapping_add_u64(held_one, held_two)
-}
-
-// The box planes at a column: third goes into second, and that into the level plane, each summed across and down on the way.
-fn add_boxes(
-    scratch: &mut [u64],
-    planes: &[u64],
-    third: usize,
-    second: usize,
-    mark: usize,
-    apart: usize,
-    sums: Across,
-) -> Across
-    requires { BoxesIn third second mark apart (length scratch.old) (length planes.now) }
-    ensures { BoxesMet planes.now scratch.old
-        scratch.new third second mark apart sums result }
-{
-    let third_across = wrapping_add_u64(sums.third, planes[mark + THIRD_BOX * apart]);
-    let third_down = add_to(scratch, third, third_across);
-    let second_across = add_three(sums.second, third_down, planes[mark + SECOND_BOX * apart]);
-    let second_down = add_to(scratch, second, second_across);
-    Across {
-        third: third_across,
-        second: second_across,
-        level: add_three(sums.level, second_down, planes[mark + LEVEL * apart]),
-    }
-}
-
-// One row of a channel. All its sums go in one loop, so that the sum down of a cell is read and stored once. A falling line
-// counts with its mark, and a rising line before its mark is taken off.
-fn sum_row(scratch: &mut [u64], planes: &[u64], starts: Starts, columns: usize)
-    requires { InOrder starts columns (length scratch.old) (length planes.now) }
-    ensures { RowSummed planes.now scratch.old scratch.new starts columns }
-{
-    let third = starts.third;
-    let second = starts.second;
-    let falling_one = starts.falling_one;
-    let falling_two = starts.falling_two;
-    let rising_one = starts.rising_one;
-    let rising_two = starts.rising_two;
-    let down = starts.down;
-    let marks = starts.marks;
-    let apart = starts.apart;
-    let mut sums = Across {
-        third: 0,
-        second: 0,
-        level: 0,
-    };
-    for x in 0..columns {
-        let mark = marks + x;
-        sums = add_boxes(scratch, planes, third + x, second + x, mark, apart, sums);
-        let fall_one = mark + FALL_ONE * apart;
-        let fall_two = mark + FALL_TWO * apart;
-        let rise_one = mark + RISE_ONE * apart;
-        let rise_two = mark + RISE_TWO * apart;
-        let falling = add_marks(
-            scratch,
-            planes,
-            falling_one + x,
-            falling_two + x,
-            fall_one,
-            fall_two,
-        );
-        let rising = take_marks_off(
-            scratch,
-            planes,
-            rising_one + x,
-            rising_two + x,
-            rise_one,
-            rise_two,
-        );
-        add_to(scratch, down + x, add_three(sums.level, falling, rising));
-    }
-}
-
-// One row of marks onto the rising lines that it meets.
-fn lay_row(scratch: &mut [u64], planes: &[u64], starts: Starts, columns: usize)
-    requires { InOrder starts columns (length scratch.old) (length planes.now) }
-    ensures { RowLaid planes.now scratch.old scratch.new starts columns }
-{
-    let rising_one = starts.rising_one;
-    let rising_two = starts.rising_two;
-    let marks = starts.marks;
-    let apart = starts.apart;
-    for x in 0..columns {
-        let mark = marks + x;
-        let rise_one = mark + RISE_ONE * apart;
-        let rise_two = mark + RISE_TWO * apart;
-        add_marks(
-            scratch,
-            planes,
-            rising_one + x,
-            rising_two + x,
-            rise_one,
-            rise_two,
-        );
-    }
-}
-
-// A channel's sums before the first row, whatever the scratch held. Rising lines have all their marks then: the sum of a line
-// from its foot to a row is what is left of it when the rows above that row have taken their marks off. So the sums down need no
-// second pass over the rows.
-pub(crate) fn start_sums(scratch: &mut [u64], planes: &[u64], channel: Channel)
-    requires { ChannelIn channel scratch.old planes.now }
-    ensures { Summed channel planes.now scratch.old scratch.new 0 }
-{
-    let starts = starts_at(channel, 0);
-    let first = channel.sums;
-    let end = starts.down + channel.columns;
-    clear(&mut scratch[first..end]);
-    let mut row = channel.high;
-    while 0 < row {
-        row -= 1;
-        lay_row(scratch, planes, starts_at(channel, row), channel.columns);
-    }
-}
-
-// A channel's sums, one row further.
-pub(crate) fn sum_next(scratch: &mut [u64], planes: &[u64], channel: Channel, row: usize)
-    requires { RowReady channel scratch.old planes.now row }
-    ensures { Summed channel planes.now scratch.old scratch.new (row + 1) }
-{
-    sum_row(scratch, planes, starts_at(channel, row), channel.columns);
+    let held = *cell;
+    *cell = held.wrapping_sub(by);
+    held
 }

@@ -1,84 +1,79 @@
 // Putting a pixel.
-ghost use Rattle.std.specs.Prelude.{◌≡◌};
-ghost use Rattle.plate_model.specs.Lent.{ask, lent, lent_at_entry, lent_at_exit};
-ghost use Rattle.plate_model.specs.declared.change.ChangeRead.TheVariants.{ToChange};
+ghost use Rattle.std.specs.Prelude.{◌≡◌, Ok};
+ghost use Rattle.plate_model.specs.Lent.{ask};
 ghost use Rattle.plate_model.specs.Calls.{put_by, put_call, leaves};
 ghost use Rattle.plate_model.specs.Ready.{PutReady};
 
-use crate::change::read_put;
 use crate::exchange::exchange;
+use crate::lent::Lent;
 use crate::state::{accepted, refused};
 use crate::word::pack_entry;
-use plate_model::change::{Change, ChangeRead};
+use kernels::Shape;
+use plate_model::change::Change;
 use plate_model::lent::Ask;
 use plate_model::state::{Answer, State};
-
-// Logs the word at the place, and sets the new pixel there.
-pub(crate) fn log_and_exchange(
-    state: State,
-    change: Change,
-    planes: &mut [u64],
-    pixels: &mut [u64],
-    log: &mut [u64],
-) -> Answer
-    requires { PutReady state change (lent planes.old pixels.old log.old) }
-    ensures { leaves result (lent_at_exit planes pixels log) ≡ put_by (ToChange change) state (lent_at_entry planes pixels log) }
-{
-    let place = change.place;
-    let count = state.count;
-    log[count] = pack_entry(pixels[place], place);
-    let size = state.size;
-    let marks = exchange(size, change, planes, pixels);
-    accepted(marks, size, count + 1)
-}
 
 // What a put asks for, with the shape that its number names.
 pub(crate) fn asked(x: usize, y: usize, value: u16, opacity: u8, shape: u8, radius: u8) -> Ask
     ensures { result ≡ ask x y value opacity shape radius }
 {
-    let read = kernels::shape::shape_of(shape);
     Ask {
-        x: x,
-        y: y,
-        value: value,
-        opacity: opacity,
-        shape: read,
-        radius: radius,
+        x,
+        y,
+        value,
+        opacity,
+        shape: Shape::try_from(shape).ok(),
+        radius,
     }
 }
 
-// Logs the word at the place that is asked for, takes its marks off and sets the new pixel. A refused put touches nothing.
-pub fn put_asked(
-    state: State,
-    ask: Ask,
-    planes: &mut [u64],
-    pixels: &mut [u64],
-    log: &mut [u64],
-) -> Answer
-    ensures { leaves result (lent_at_exit planes pixels log) ≡ put_call state ask (lent_at_entry planes pixels log) }
-{
-    match read_put(state, ask, planes.len(), pixels, log.len()) {
-        ChangeRead::ToChange(change) => log_and_exchange(state, change, planes, pixels, log),
-        ChangeRead::NoChange(why) => refused(why, state),
-    }
-}
+impl Lent<'_> {
+    ghost use Rattle.plate.specs.Lending.{lent_of, SameSlices};
 
-// The same at (x, y), by the paper's arguments.
-pub fn put(
-    state: State,
-    x: usize,
-    y: usize,
-    value: u16,
-    opacity: u8,
-    shape: u8,
-    radius: u8,
-    planes: &mut [u64],
-    pixels: &mut [u64],
-    log: &mut [u64],
-) -> Answer
-    ensures { leaves result (lent_at_exit planes pixels log)
-        ≡ put_call state (ask x y value opacity shape radius) (lent_at_entry planes pixels log) }
-{
-    let arguments = asked(x, y, value, opacity, shape, radius);
-    put_asked(state, arguments, planes, pixels, log)
+    // Logs the word at the place, and sets the new pixel there.
+    pub(crate) fn log_and_exchange(&mut self, state: State, change: Change) -> Answer
+        requires { PutReady state change (lent_of self.old) }
+        ensures left { leaves result (lent_of self.new) ≡ put_by (Ok change) state (lent_of self.old) }
+        ensures slices { SameSlices self.old self.new }
+    {
+        self.log[state.count] = pack_entry(self.pixels[change.place], change.place);
+        let marks = exchange(state.size, change, self.planes, self.pixels);
+        accepted(
+            marks,
+            State {
+                count: state.count + 1,
+                ..state
+            },
+        )
+    }
+
+    // Logs the word at the place that is asked for, takes its marks off and sets the new pixel. A refused put touches nothing.
+    pub fn put_asked(&mut self, state: State, ask: Ask) -> Answer
+        ensures left { leaves result (lent_of self.new) ≡ put_call state ask (lent_of self.old) }
+        ensures slices { SameSlices self.old self.new }
+    {
+        match self.read_put(state, ask) {
+            Ok(change) => self.log_and_exchange(state, change),
+            Err(why) => refused(why, state),
+        }
+    }
+
+    // The same at (x, y), by the paper's arguments, as C gives them: one by one, and the shape as its number.
+    pub fn put(
+        &mut self,
+        state: State,
+        x: usize,
+        y: usize,
+        value: u16,
+        opacity: u8,
+        shape: u8,
+        radius: u8,
+    ) -> Answer
+        ensures left { leaves result (lent_of self.new)
+            ≡ put_call state (ask x y value opacity shape radius) (lent_of self.old) }
+        ensures slices { SameSlices self.old self.new }
+    {
+        let arguments = asked(x, y, value, opacity, shape, radius);
+        self.put_asked(state, arguments)
+    }
 }

@@ -1,20 +1,21 @@
 // Show: the planes finished into the two pictures. One pass over the rows sums light and matte side by side and rounds each row
-// of the image at once, so that no channel's sums are ever stored.
-ghost use Rattle.std.specs.Prelude.{◌≡◌, ◌+◌};
+// of the image at once, so that no channel's sums are ever stored. Scratch and the two pictures are lent one by one, as C lends
+// them: each function here writes to one of them while it reads another, and would take a struct of them apart.
+ghost use Rattle.std.specs.Prelude.{◌≡◌, ◌+◌, ◌-◌, length};
+ghost use Rattle.std.specs.List.{between};
 ghost use Rattle.plate_model.specs.Lent.{views_at_entry, views_at_exit};
 ghost use Rattle.plate_model.specs.Calls.{show_call, shows};
-ghost use Rattle.plate_model.specs.Table.{LawfulSize};
-ghost use Rattle.plate.specs.Showing.{light_channel, BothIn, AboveReady, BothReady, BothSummed, RowIn, RowShown, ImageReady};
-ghost use Rattle.plate.specs.Showing.{ShownTo, ShowReady, ShowDone};
+ghost use Rattle.plate.specs.Passes.{sums_end, matte_after};
+ghost use Rattle.plate.specs.Showing.{light_channel, image_of, BothIn, AboveReady, BothReady, BothSummed, SumsOfRow, RowRounded};
+ghost use Rattle.plate.specs.Showing.{ImageReady, ShownTo, ShowReady, ShowDone};
 
 use crate::check::check_show;
-use crate::clear::clear;
-use crate::pass::{Channel, matte_after, start_sums, sum_next};
-use crate::size::frame_of;
+use crate::pass::Channel;
+use crate::size::PlateSize;
+use crate::state::{accepted, refused};
 use kernels::rounding::{shown_matte, shown_value};
 use kernels_model::fixed::MARGIN;
-use plate_model::size::Size;
-use plate_model::state::{Answer, Outcome, State};
+use plate_model::state::{Answer, State};
 
 // The image in a padded plane: its first column, which is its first row as well, and its sizes.
 #[derive(Clone, Copy)]
@@ -24,14 +25,40 @@ pub(crate) struct Image {
     pub height: usize,
 }
 
+impl Image {
+    // The image of a plate.
+    pub(crate) fn of(size: PlateSize) -> Image
+        ensures { result ≡ image_of size.size }
+    {
+        Image {
+            first: size.size.reach + MARGIN,
+            width: size.size.width,
+            height: size.size.height,
+        }
+    }
+
+    // The finished sums of a row's cells in the image, light's and matte's, after that row is summed: those of the last columns.
+    pub(crate) fn row_of<'a>(self, scratch: &'a [u64], light: Channel) -> (&'a [u64], &'a [u64])
+        requires fits { SumsOfRow self light (length scratch.now) }
+        ensures light_is { result.0.now ≡ between (sums_end light - self.width) (sums_end light) scratch.now }
+        ensures matte_is { result.1.now ≡ between (sums_end (matte_after light) - self.width) (sums_end (matte_after light)) scratch.now }
+    {
+        let light_end = light.matte_after().sums;
+        let matte_end = light_end + (light_end - light.sums);
+        (
+            &scratch[light_end - self.width..light_end],
+            &scratch[matte_end - self.width..matte_end],
+        )
+    }
+}
+
 // Light of a plate's planes: it is summed up to the image's last column, since no sum goes leftwards.
-pub(crate) fn light_channel(size: Size) -> Channel
-    requires { LawfulSize size }
-    ensures { result ≡ light_channel size }
+pub(crate) fn light_channel(size: PlateSize) -> Channel
+    ensures { result ≡ light_channel size.size }
 {
-    let frame = frame_of(size);
+    let frame = size.frame();
     Channel {
-        columns: size.reach + MARGIN + size.width,
+        columns: size.size.reach + MARGIN + size.size.width,
         wide: frame.wide,
         high: frame.high,
         sums: 0,
@@ -44,9 +71,8 @@ fn lay_both(scratch: &mut [u64], planes: &[u64], light: Channel)
     requires { BothIn light scratch.old planes.now }
     ensures { BothSummed light planes.now scratch.old scratch.new 0 }
 {
-    let matte = matte_after(light);
-    start_sums(scratch, planes, light);
-    start_sums(scratch, planes, matte);
+    light.start_sums(scratch, planes);
+    light.matte_after().start_sums(scratch, planes);
 }
 
 // Both channels' sums, one row further.
@@ -54,9 +80,8 @@ pub(crate) fn sum_both(scratch: &mut [u64], planes: &[u64], light: Channel, row:
     requires { BothReady light scratch.old planes.now row }
     ensures { BothSummed light planes.now scratch.old scratch.new (row + 1) }
 {
-    let matte = matte_after(light);
-    sum_next(scratch, planes, light, row);
-    sum_next(scratch, planes, matte, row);
+    light.sum_next(scratch, planes, row);
+    light.matte_after().sum_next(scratch, planes, row);
 }
 
 // The rows above the image: they are summed, and nothing is shown of them.
@@ -70,29 +95,22 @@ pub(crate) fn sum_above(scratch: &mut [u64], planes: &[u64], light: Channel, row
     }
 }
 
-// A row of the image, from the place `first` on, of the finished sums that start at `light` and `matte`.
-pub(crate) fn round_row(
-    values: &mut [u16],
-    mattes: &mut [u8],
-    scratch: &[u64],
-    light: usize,
-    matte: usize,
-    first: usize,
-    width: usize,
-)
-    requires { RowIn scratch.now values.old mattes.old light matte first width }
-    ensures { RowShown scratch.now light matte first width values.old values.new
-        mattes.old mattes.new }
+// A run of cells shown, by their finished sums of light and of matte. All four slices go by one index: after a loop over
+// `iter_mut` of two that are zipped nothing is known of what they hold.
+pub(crate) fn round_row(values: &mut [u16], mattes: &mut [u8], light: &[u64], matte: &[u64])
+    requires values_fit { length values.old ≡ length light.now }
+    requires mattes_fit { length mattes.old ≡ length light.now }
+    requires mattes_are { length matte.now ≡ length light.now }
+    ensures { RowRounded light.now matte.now values.new mattes.new }
 {
-    for x in 0..width {
-        let place = first + x;
-        let matte_sum = scratch[matte + x];
-        values[place] = shown_value(scratch[light + x], matte_sum);
-        mattes[place] = shown_matte(matte_sum);
+    for x in 0..light.len() {
+        values[x] = shown_value(light[x], matte[x]);
+        mattes[x] = shown_matte(matte[x]);
     }
 }
 
-// The rows of the image: each is summed, and shown while its sums are at hand.
+// The rows of the image: each is summed, and shown while its sums are at hand. The cells of a row are cut out by their place: of
+// what `chunks_mut` lends nothing is known afterwards.
 fn show_rows(
     values: &mut [u16],
     mattes: &mut [u8],
@@ -104,23 +122,16 @@ fn show_rows(
     requires { ImageReady light image scratch.old planes.now values.old mattes.old }
     ensures { ShownTo light image planes.now values.new mattes.new image.height }
 {
-    let matte = matte_after(light);
-    let first = image.first;
-    let width = image.width;
-    let height = image.height;
-    let light_end = matte.sums;
-    let light_down = light_end - width;
-    let matte_down = light_down + (light_end - light.sums);
-    for row in 0..height {
-        sum_both(scratch, planes, light, first + row);
+    for row in 0..image.height {
+        sum_both(scratch, planes, light, image.first + row);
+        let (light_row, matte_row) = image.row_of(scratch, light);
+        let first = row * image.width;
+        let past = first + image.width;
         round_row(
-            values,
-            mattes,
-            scratch,
-            light_down,
-            matte_down,
-            row * width,
-            width,
+            &mut values[first..past],
+            &mut mattes[first..past],
+            light_row,
+            matte_row,
         );
     }
 }
@@ -137,16 +148,12 @@ fn show_all(
     ensures { ShowDone state planes.now (views_at_entry scratch values mattes)
         (views_at_exit scratch values mattes) }
 {
-    let size = state.size;
+    let size = PlateSize { size: state.size };
     let light = light_channel(size);
-    let image = Image {
-        first: size.reach + MARGIN,
-        width: size.width,
-        height: size.height,
-    };
+    let image = Image::of(size);
     sum_above(scratch, planes, light, image.first);
     show_rows(values, mattes, scratch, planes, light, image);
-    clear(scratch);
+    scratch.fill(0);
 }
 
 // The pictures of what the planes hold, and the scratch cleared; or a refusal, and nothing is touched.
@@ -167,17 +174,9 @@ pub fn show(
         values.len(),
         mattes.len(),
     );
-    let Outcome::Accepted = outcome else {
-        return Answer {
-            outcome: outcome,
-            marks: 0,
-            state: state,
-        };
-    };
-    show_all(state, planes, scratch, values, mattes);
-    Answer {
-        outcome: Outcome::Accepted,
-        marks: 0,
-        state: state,
+    if let Err(why) = outcome {
+        return refused(why, state);
     }
+    show_all(state, planes, scratch, values, mattes);
+    accepted(0, state)
 }

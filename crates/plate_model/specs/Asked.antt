@@ -1,8 +1,6 @@
 -- What a put and a fill ask for: places and pixels, before any plate or notebook.
-use Rattle.std.specs.Prelude.{ℕ, min, get_or}
+use Rattle.std.specs.Prelude.{ℕ, min, get_or, Option, Some, None}
 use Rattle.kernels_model.specs.declared.shape.Shape.{Shape}
-use Rattle.kernels_model.specs.declared.shape.ShapeRead.{ShapeRead}
-use Rattle.kernels_model.specs.declared.shape.ShapeRead.TheVariants.{Known, Unknown}
 use Rattle.kernels_model.specs.Shape.{top_under}
 use Rattle.kernels_model.specs.declared.lens.Lens.{Lens}
 use Rattle.kernels_model.specs.Lens.{blur}
@@ -15,9 +13,9 @@ abbrev pub asked_place : Size → Ask → ℕ
 asked_place z a = place_at z a.x a.y
 
 -- the pixel that an accepted put asks for; a put with no shape is never accepted
-abbrev pub known_shape : ShapeRead → Shape
-known_shape (Known s) = s
-known_shape Unknown = empty.shape
+abbrev pub known_shape : Option Shape → Shape
+known_shape (Some s) = s
+known_shape None = empty.shape
 
 abbrev pub asked_pixel : Ask → Pixel
 asked_pixel a = record { value = a.value; opacity = a.opacity; shape = known_shape a.shape; radius = a.radius }

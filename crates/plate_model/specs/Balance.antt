@@ -1,12 +1,12 @@
 -- Light is neither made nor lost: what a plate holds in all is what its pixels had.
-use Rattle.std.specs.Prelude.{◌≡◌, List, ℕ, ◌*◌, ◌^◌, ◌<◌, length}
+use Rattle.std.specs.Prelude.{◌≡◌, List, ℕ, ◌*◌, ◌^◌, ◌<◌, length, Ok}
 use Rattle.kernels_model.specs.Fixed.{unit}
 use Rattle.kernels_model.specs.Sum.{sum}
 use Rattle.plate_model.specs.Fixed.{scratch_planes}
 use Rattle.plate_model.specs.Layout.{Size, padded, places}
 use Rattle.plate_model.specs.Lent.{Lent, lengths_of}
 use Rattle.plate_model.specs.Word.{Pixel}
-use Rattle.plate_model.specs.Refusal.{Accepted, open_check}
+use Rattle.plate_model.specs.Refusal.{open_check}
 use Rattle.kernels_model.specs.Listed.{zeros}
 use Rattle.plate_model.specs.Calls.{answer_of, open_call}
 use Rattle.plate_model.specs.Plain.{pixel_at, light_of, matte_of}
@@ -24,13 +24,13 @@ had_by z grid worth = unit * sum (λ j. worth (pixel_at grid j)) (places z)
 -- neither product reaches 2^64, so that nothing is wrapped
 abbrev pub Balances : Type 0
 Balances =
-    (z : Size) (l : Lent) (calls : List Call) (scratch : List ℕ) → open_check z (lengths_of l) ≡ Accepted
+    (z : Size) (l : Lent) (calls : List Call) (scratch : List ℕ) → open_check z (lengths_of l) ≡ Ok tt
     → length scratch ≡ scratch_planes * padded z →
     let p = plate_after (left_by (open_call z l)) calls in
     let grid = (book_after (open_book z (length l.log)) calls).grid in
     let matte = had_by z grid matte_of in
     let light = had_by z grid light_of in
     (total_call p.state p.buffers.planes scratch
-    ≡ totalled (totals_of (answer_of Accepted 0 p.state) matte light) (zeros (length scratch)))
+    ≡ totalled (totals_of (answer_of (Ok tt) 0 p.state) matte light) (zeros (length scratch)))
     × (matte < 2 ^ 64)
     × (light < 2 ^ 64)

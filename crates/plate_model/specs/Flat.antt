@@ -1,11 +1,11 @@
 -- Flat layers: what a cell shows where every pixel that reaches it is the same.
-use Rattle.std.specs.Prelude.{◌≡◌, List, ℕ, ◌+◌, ◌/◌, ◌%◌, ◌≤◌, ◌<◌, get_or, length}
+use Rattle.std.specs.Prelude.{◌≡◌, List, ℕ, ◌+◌, ◌/◌, ◌%◌, ◌≤◌, ◌<◌, get_or, length, Ok}
 use Rattle.kernels_model.specs.Sum.{dist}
 use Rattle.kernels_model.specs.Shape.{reach_of}
 use Rattle.plate_model.specs.Layout.{Size, places}
 use Rattle.plate_model.specs.Word.{Pixel, Fits}
 use Rattle.plate_model.specs.Lent.{Lent, lengths_of, Views}
-use Rattle.plate_model.specs.Refusal.{Accepted, open_check, views_check}
+use Rattle.plate_model.specs.Refusal.{open_check, views_check}
 use Rattle.plate_model.specs.Calls.{open_call, show_call}
 use Rattle.plate_model.specs.Plain.{pixel_at, weight_at, plain_values, plain_mattes}
 use Rattle.plate_model.specs.Notebook.{open_book}
@@ -44,8 +44,8 @@ FlatShows =
 -- and so it is seen in every accepted show of a plate after a list of calls that left the notebook's grid flat there
 abbrev pub FlatSeen : Type 0
 FlatSeen =
-    (z : Size) (l : Lent) (calls : List Call) (v : Views) (p : Pixel) (i : ℕ) → open_check z (lengths_of l) ≡ Accepted
-    → views_check z (length v.scratch) (length v.values) (length v.mattes) ≡ Accepted
+    (z : Size) (l : Lent) (calls : List Call) (v : Views) (p : Pixel) (i : ℕ) → open_check z (lengths_of l) ≡ Ok tt
+    → views_check z (length v.scratch) (length v.values) (length v.mattes) ≡ Ok tt
     → 0 < p.opacity → FlatAt z (book_after (open_book z (length l.log)) calls).grid p i →
     let plate = plate_after (left_by (open_call z l)) calls in
     let seen = (show_call plate.state plate.buffers.planes v).seen in

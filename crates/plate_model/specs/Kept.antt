@@ -1,5 +1,5 @@
 -- Refresh under the brush: the second forms of show, put and undo, which keep the finished sums and mend them.
-use Rattle.std.specs.Prelude.{Bool, not, ◌||◌, List, ◌++◌, ℕ, ◌+◌, ◌*◌, ◌/◌, ◌%◌, ◌^◌, eqb, get_or, length}
+use Rattle.std.specs.Prelude.{Bool, not, ◌||◌, List, ◌++◌, ℕ, ◌+◌, ◌*◌, ◌/◌, ◌%◌, ◌^◌, eqb, get_or, length, Result, Ok, Err}
 use Rattle.kernels_model.specs.Fixed.{planes_each}
 use Rattle.kernels_model.specs.Choice.{pick}
 use Rattle.kernels_model.specs.Sum.{dist}
@@ -9,8 +9,8 @@ use Rattle.plate_model.specs.Layout.{Size, places, matte_from}
 use Rattle.plate_model.specs.Lent.{State, Lent, lengths_of, Ask, Views, Canvas, canvas}
 use Rattle.plate_model.specs.Word.{Pixel}
 use Rattle.plate_model.specs.Kernel.{tap_of}
-use Rattle.plate_model.specs.Refusal.{Answer, Outcome, Accepted, Refused, kept_check, show_kept_check}
-use Rattle.plate_model.specs.Change.{Change, ChangeRead, ToChange, NoChange, put_read, undo_read}
+use Rattle.plate_model.specs.Refusal.{Answer, Outcome, kept_check, show_kept_check, Refusal}
+use Rattle.plate_model.specs.Change.{Change, put_read, undo_read}
 use Rattle.kernels_model.specs.Listed.{list_to}
 use Rattle.plate_model.specs.Calls.{Left, leaves, put_by, undo_by, sum_at, Shown, shows, show_by}
 use Rattle.plate_model.specs.Plain.{light_of, matte_of, weight_at}
@@ -76,25 +76,25 @@ abbrev pub leaves_kept : Answer → Lent → Canvas → Refreshed
 leaves_kept a l k = record { call = leaves a l; canvas = k }
 
 -- the refusals that come from sums and pictures, before what the first form reads
-unfoldable pub kept_read : Outcome → ChangeRead → ChangeRead
-kept_read (Refused f) read = NoChange f
-kept_read Accepted read = read
+unfoldable pub kept_read : Outcome → Result Change Refusal → Result Change Refusal
+kept_read (Err f) read = Err f
+kept_read (Ok tt) read = read
 
 abbrev pub canvas_first : Size → Canvas → Outcome
 canvas_first z k = kept_check z (length k.sums) (length k.values) (length k.mattes)
 
 -- a refused call leaves sums and pictures as they are
-unfoldable pub canvas_by : ChangeRead → Size → Canvas → Canvas
-canvas_by (NoChange f) z k = k
-canvas_by (ToChange c) z k = mended z c k
+unfoldable pub canvas_by : Result Change Refusal → Size → Canvas → Canvas
+canvas_by (Err f) z k = k
+canvas_by (Ok c) z k = mended z c k
 
-unfoldable pub put_kept_by : ChangeRead → State → Lent → Canvas → Refreshed
+unfoldable pub put_kept_by : Result Change Refusal → State → Lent → Canvas → Refreshed
 put_kept_by r s l k = record { call = put_by r s l; canvas = canvas_by r s.size k }
 
 unfoldable pub put_kept_call : State → Ask → Lent → Canvas → Refreshed
 put_kept_call s a l k = put_kept_by (kept_read (canvas_first s.size k) (put_read s a (lengths_of l) l.pixels)) s l k
 
-unfoldable pub undo_kept_by : ChangeRead → State → Lent → Canvas → Refreshed
+unfoldable pub undo_kept_by : Result Change Refusal → State → Lent → Canvas → Refreshed
 undo_kept_by r s l k = record { call = undo_by r s l; canvas = canvas_by r s.size k }
 
 unfoldable pub undo_kept_call : State → Lent → Canvas → Refreshed
@@ -106,8 +106,8 @@ unfoldable pub sums_of : Size → List ℕ → List ℕ
 sums_of z planes = list_to (sum_at z planes 0) (places z) ++ list_to (sum_at z planes planes_each) (places z)
 
 unfoldable pub sums_by : Outcome → Size → List ℕ → List ℕ → List ℕ
-sums_by (Refused f) z planes sums = sums
-sums_by Accepted z planes sums = sums_of z planes
+sums_by (Err f) z planes sums = sums
+sums_by (Ok tt) z planes sums = sums_of z planes
 
 -- what it answers and leaves: that of the first form, and beside it the sums
 pub record ShownKept : Type 0 where

@@ -1,11 +1,11 @@
 -- Lists of calls, on a plate and on a notebook, and what demands 3 and 2 say of them.
-use Rattle.std.specs.Prelude.{◌≡◌, List, [], ◌∷◌, map, ℕ, zero, suc, ◌*◌, ◌<◌, get_or, length}
+use Rattle.std.specs.Prelude.{◌≡◌, List, [], ◌∷◌, map, ℕ, zero, suc, ◌*◌, ◌<◌, get_or, length, Ok}
 use Rattle.kernels_model.specs.declared.lens.Lens.{Lens}
 use Rattle.plate_model.specs.Fixed.{planes_in_all}
 use Rattle.plate_model.specs.Layout.{Size, padded}
 use Rattle.plate_model.specs.Word.{word_of}
 use Rattle.plate_model.specs.Lent.{State, Lent, lengths_of, ask, inputs, Views, Canvas}
-use Rattle.plate_model.specs.Refusal.{Accepted, open_check, views_check}
+use Rattle.plate_model.specs.Refusal.{open_check, views_check}
 use Rattle.kernels_model.specs.Listed.{zeros}
 use Rattle.plate_model.specs.Calls.{Left, Shown, shown, answer_of, open_call, put_call, undo_call, fill_call, show_call}
 use Rattle.plate_model.specs.Kept.{put_kept_call, undo_kept_call, show_kept_call}
@@ -109,7 +109,7 @@ pub record Holds (p : Plate) (b : Book) : Type 0 where
 -- notebook holds
 abbrev pub Demand3 : Type 0
 Demand3 =
-    (z : Size) (l : Lent) (calls : List Call) → open_check z (lengths_of l) ≡ Accepted →
+    (z : Size) (l : Lent) (calls : List Call) → open_check z (lengths_of l) ≡ Ok tt →
     let p = left_by (open_call z l) in
     let b = open_book z (length l.log) in
     (plate_reports p calls ≡ book_reports b calls) × Holds (plate_after p calls) (book_after b calls)
@@ -118,9 +118,9 @@ Demand3 =
 -- the notebook's grid, and leaves scratch all zero
 abbrev pub Demand2 : Type 0
 Demand2 =
-    (z : Size) (l : Lent) (calls : List Call) (v : Views) → open_check z (lengths_of l) ≡ Accepted
-    → views_check z (length v.scratch) (length v.values) (length v.mattes) ≡ Accepted →
+    (z : Size) (l : Lent) (calls : List Call) (v : Views) → open_check z (lengths_of l) ≡ Ok tt
+    → views_check z (length v.scratch) (length v.values) (length v.mattes) ≡ Ok tt →
     let p = plate_after (left_by (open_call z l)) calls in
     let grid = (book_after (open_book z (length l.log)) calls).grid in
     show_call p.state p.buffers.planes v
-    ≡ shown (answer_of Accepted 0 p.state) (zeros (length v.scratch)) (plain_values z grid) (plain_mattes z grid)
+    ≡ shown (answer_of (Ok tt) 0 p.state) (zeros (length v.scratch)) (plain_values z grid) (plain_mattes z grid)

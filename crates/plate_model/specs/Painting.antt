@@ -1,8 +1,8 @@
 -- What a painter relies on: kept sums and pictures are those of the plate, call after call.
-use Rattle.std.specs.Prelude.{◌≡◌, List, [], ◌∷◌, ◌++◌, map, ℕ, ◌<◌, length}
+use Rattle.std.specs.Prelude.{◌≡◌, List, [], ◌∷◌, ◌++◌, map, ℕ, ◌<◌, length, Ok}
 use Rattle.plate_model.specs.Layout.{Size}
 use Rattle.plate_model.specs.Lent.{State, Lent, lengths_of, Ask, ask, Views, Canvas, canvas}
-use Rattle.plate_model.specs.Refusal.{Accepted, open_check}
+use Rattle.plate_model.specs.Refusal.{open_check}
 use Rattle.plate_model.specs.Calls.{open_call, values_of, mattes_of}
 use Rattle.plate_model.specs.Kept.{Refreshed, put_kept_call, undo_kept_call, sums_of, ShownKept, show_kept_call}
 use Rattle.plate_model.specs.Plain.{plain_sums, plain_values, plain_mattes}
@@ -86,7 +86,7 @@ first_form kept_undo = undo_it
 abbrev pub PaintsPlain : Type 0
 PaintsPlain =
     (z : Size) (l : Lent) (calls : List Call) (v : Views) (sums : List ℕ) (changes : List KeptCall)
-    → open_check z (lengths_of l) ≡ Accepted →
+    → open_check z (lengths_of l) ≡ Ok tt →
     let p = plate_after (left_by (open_call z l)) calls in
     let first = show_kept_call p.state p.buffers.planes v sums in
     let end = paint_all (shown_painting p first) changes in

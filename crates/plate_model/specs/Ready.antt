@@ -1,10 +1,10 @@
 -- What a put or an undo may count on once it has read its change.
-use Rattle.std.specs.Prelude.{◌≡◌, ℕ, ◌+◌, ◌*◌, ◌-◌, ◌^◌, ◌≤◌, ◌<◌, get_or, length}
+use Rattle.std.specs.Prelude.{◌≡◌, ℕ, ◌+◌, ◌*◌, ◌-◌, ◌^◌, ◌≤◌, ◌<◌, get_or, length, Ok}
 use Rattle.plate_model.specs.Fixed.{planes_in_all, word_bits}
 use Rattle.plate_model.specs.Layout.{Size, padded}
 use Rattle.plate_model.specs.Lent.{State, Ask, Lent, lengths_of}
 use Rattle.plate_model.specs.Word.{Fits}
-use Rattle.plate_model.specs.Change.{Change, ToChange, put_read, undo_read}
+use Rattle.plate_model.specs.Change.{Change, put_read, undo_read}
 use Rattle.plate_model.specs.Table.{LawfulSize}
 
 -- a change of a lawful plate: a place of it, and two of its pixels
@@ -34,7 +34,7 @@ pub record PutReady (s : State) (c : Change) (l : Lent) : Type 0 where
 abbrev pub PutReads : Type 0
 PutReads =
     (s : State) (a : Ask) (l : Lent) → a.opacity < 256 → (c : Change)
-    → put_read s a (lengths_of l) l.pixels ≡ ToChange c → PutReady s c l
+    → put_read s a (lengths_of l) l.pixels ≡ Ok c → PutReady s c l
 
 -- UNDO
 -- the place has a word, and the log an entry
@@ -47,4 +47,4 @@ pub record UndoReady (s : State) (c : Change) (l : Lent) : Type 0 where
 -- so it is of every change that an undo reads
 abbrev pub UndoReads : Type 0
 UndoReads =
-    (s : State) (l : Lent) (c : Change) → undo_read s (lengths_of l) l.pixels l.log ≡ ToChange c → UndoReady s c l
+    (s : State) (l : Lent) (c : Change) → undo_read s (lengths_of l) l.pixels l.log ≡ Ok c → UndoReady s c l

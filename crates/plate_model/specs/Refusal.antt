@@ -1,10 +1,9 @@
 -- The refusals: their numbers, and what each call checks. "The lowest number that applies is given; a call checks only what it
 -- is lent."
-use Rattle.std.specs.Prelude.{Bool, true, false, not, List, [], ◌∷◌, ℕ, ◌*◌, leb, ltb, eqb, length}
+use Rattle.std.specs.Prelude.{Bool, true, false, not, List, [], ◌∷◌, ℕ, ◌*◌, leb, ltb, eqb, length, Option, Some, None, Result, Ok, Err}
 use Rattle.kernels_model.specs.Choice.{pick}
-use Rattle.kernels_model.specs.declared.shape.ShapeRead.{ShapeRead}
-use Rattle.kernels_model.specs.declared.shape.ShapeRead.TheVariants.{Known, Unknown}
 use Rattle.kernels_model.specs.Shape.{shape_of, top_under}
+use Rattle.kernels_model.specs.declared.shape.Shape.{Shape}
 use Rattle.kernels_model.specs.declared.lens.Lens.{Lens}
 use Rattle.kernels_model.specs.Lens.{lawful_lens}
 use Rattle.kernels_model.specs.Fixed.{value_top, depth_top, shape_refused, lens_refused, depth_refused}
@@ -16,8 +15,10 @@ pub use Rattle.plate_model.specs.declared.state.Refusal.{Refusal}
 pub use Rattle.plate_model.specs.declared.state.Refusal.TheVariants.{Sizes, Lengths, LogCount, Place, Value, UnknownShape}
 pub use Rattle.plate_model.specs.declared.state.Refusal.TheVariants.{LargeRadius, LogFull, LogEmpty, StoredWord}
 pub use Rattle.plate_model.specs.declared.state.Refusal.TheVariants.{UnlawfulLens, Depth, DepthInside}
-pub use Rattle.plate_model.specs.declared.state.Outcome.{Outcome}
-pub use Rattle.plate_model.specs.declared.state.Outcome.TheVariants.{Accepted, Refused}
+
+-- what a check says: nothing, where nothing refuses the call, or why it is refused
+abbrev pub Outcome : Type 0
+Outcome = Result Unit Refusal
 
 -- "An accepted call returns number 0. A refusal returns its number": those of a shape, a lens and a depth, 6, 11 and 12, are the
 -- kernels'
@@ -37,8 +38,8 @@ refusal_number Depth = depth_refused
 refusal_number DepthInside = 17
 
 abbrev pub outcome_number : Outcome → ℕ
-outcome_number Accepted = 0
-outcome_number (Refused f) = refusal_number f
+outcome_number (Ok tt) = 0
+outcome_number (Err f) = refusal_number f
 
 -- what a call returns, in the paper's numbers: number, mark count and state
 pub record Returned : Type 0 where
@@ -52,7 +53,7 @@ returned a = record { number = outcome_number a.outcome; marks = a.marks; state 
 
 -- the refusal where the test holds, else what comes next
 unfoldable pub refuse_if : Bool → Refusal → Outcome → Outcome
-refuse_if true f next = Refused f
+refuse_if true f next = Err f
 refuse_if false f next = next
 
 -- THE CHECK OF EACH ROW of the table, in front of what comes next. What the row is given for stands in specs/Table.antt, and the
@@ -90,14 +91,14 @@ abbrev pub value_check : ℕ → Outcome → Outcome
 value_check v next = refuse_if (ltb value_top v) Value next
 
 -- 6: "shape above 5"
-unfoldable pub shape_check : ShapeRead → Outcome → Outcome
-shape_check Unknown next = Refused UnknownShape
-shape_check (Known s) next = next
+unfoldable pub shape_check : Option Shape → Outcome → Outcome
+shape_check None next = Err UnknownShape
+shape_check (Some s) next = next
 
 -- 7: "r above top under R", of a shape that is read
-unfoldable pub radius_check : ℕ → ShapeRead → ℕ → Outcome → Outcome
-radius_check R Unknown r next = next
-radius_check R (Known s) r next = refuse_if (ltb (top_under s R) r) LargeRadius next
+unfoldable pub radius_check : ℕ → Option Shape → ℕ → Outcome → Outcome
+radius_check R None r next = next
+radius_check R (Some s) r next = refuse_if (ltb (top_under s R) r) LargeRadius next
 
 -- 8: "put: count equals log length"
 abbrev pub full_check : ℕ → ℕ → Outcome → Outcome
@@ -138,7 +139,7 @@ unfoldable pub ask_check : Size → ℕ → ℕ → Ask → Outcome
 ask_check z n room a =
     place_check z a
     (value_check a.value
-    (shape_check a.shape (radius_check z.reach a.shape a.radius (full_check n room Accepted))))
+    (shape_check a.shape (radius_check z.reach a.shape a.radius (full_check n room (Ok tt)))))
 
 -- 2 for fill's inputs, "W × H each"
 unfoldable pub inputs_check : Size → ℕ → ℕ → ℕ → Outcome → Outcome
@@ -149,12 +150,12 @@ inputs_check z values opacities depths next =
 unfoldable pub layer_check : Lens → ℕ → Inputs → Outcome
 layer_check l s f =
     refuse_if (any_above value_top f.values) Value
-    (shape_check (shape_of s) (lens_check l (depths_check f.depths (inside_check l f.depths Accepted))))
+    (shape_check (shape_of s) (lens_check l (depths_check f.depths (inside_check l f.depths (Ok tt)))))
 
 -- 2 for scratch, "3 × P", and "the two pictures .. W × H each"
 unfoldable pub views_check : Size → ℕ → ℕ → ℕ → Outcome
 views_check z scratch values mattes =
-    length_check scratch (scratch_planes * padded z) (length_check values (places z) (length_check mattes (places z) Accepted))
+    length_check scratch (scratch_planes * padded z) (length_check values (places z) (length_check mattes (places z) (Ok tt)))
 
 -- "A wrong buffer length is 2, as elsewhere": 2 for the buffer of sums
 abbrev pub sums_check : Size → ℕ → Outcome → Outcome
@@ -163,11 +164,11 @@ sums_check z sums next = length_check sums (sums_in_all z) next
 -- and for the two pictures that the second forms of put and undo are lent too
 unfoldable pub canvas_check : Size → ℕ → ℕ → ℕ → Outcome
 canvas_check z sums values mattes =
-    sums_check z sums (length_check values (places z) (length_check mattes (places z) Accepted))
+    sums_check z sums (length_check values (places z) (length_check mattes (places z) (Ok tt)))
 
 -- open: 1 2
 unfoldable pub open_check : Size → LentLengths → Outcome
-open_check z n = sizes_check z (lent_check z n Accepted)
+open_check z n = sizes_check z (lent_check z n (Ok tt))
 
 -- 1 2 3, first of put and undo
 unfoldable pub plate_check : State → LentLengths → Outcome → Outcome
@@ -179,7 +180,7 @@ put_check s a n = plate_check s n (ask_check s.size s.count n.log a)
 
 -- undo: 1 2 3 9
 unfoldable pub undo_check : State → LentLengths → Outcome
-undo_check s n = plate_check s n (empty_check s.count Accepted)
+undo_check s n = plate_check s n (empty_check s.count (Ok tt))
 
 -- fill: 1 2 3, and what its inputs hold: 5 6 11 12 17
 unfoldable pub fill_first : State → Inputs → LentLengths → Outcome → Outcome
@@ -195,7 +196,7 @@ fill_check s o k f n = fill_first s f n (layer_check o k f)
 -- total: 1 2
 unfoldable pub total_check : Size → ℕ → ℕ → Outcome
 total_check z planes scratch =
-    sizes_check z (length_check planes (planes_in_all * padded z) (length_check scratch (scratch_planes * padded z) Accepted))
+    sizes_check z (length_check planes (planes_in_all * padded z) (length_check scratch (scratch_planes * padded z) (Ok tt)))
 
 -- show: 1 2
 unfoldable pub show_check : State → ℕ → ℕ → ℕ → ℕ → Outcome

@@ -1,11 +1,10 @@
 -- THE TABLE OF REFUSALS: when each row is given, in the paper's words, and each call's rows in the order in which it checks them.
 -- DEMAND 1: every call answers by its rows, and a refused call leaves everything as it was.
-use Rattle.std.specs.Prelude.{◌≡◌, ◌≢◌, ◌⊎◌, List, [], ◌∷◌, map, ℕ, ◌*◌, ◌-◌, ◌/◌, ◌%◌, ◌^◌, ◌≤◌, ◌<◌, get_or, length}
+use Rattle.std.specs.Prelude.{◌≡◌, ◌≢◌, ◌⊎◌, List, [], ◌∷◌, map, ℕ, ◌*◌, ◌-◌, ◌/◌, ◌%◌, ◌^◌, ◌≤◌, ◌<◌, get_or, length, Option, Some, None, Ok, Err}
 use Rattle.kernels_model.specs.Fixed.{shape_count, value_top, depth_top}
 use Rattle.kernels_model.specs.Rows.{TableRow, row, FirstOf}
-use Rattle.kernels_model.specs.declared.shape.ShapeRead.{ShapeRead}
-use Rattle.kernels_model.specs.declared.shape.ShapeRead.TheVariants.{Known, Unknown}
 use Rattle.kernels_model.specs.Shape.{shape_of, top_under}
+use Rattle.kernels_model.specs.declared.shape.Shape.{Shape}
 use Rattle.kernels_model.specs.declared.lens.Lens.{Lens}
 use Rattle.kernels_model.specs.Lens.{opening_top, focal_top, focus_top, pitch_top}
 use Rattle.plate_model.specs.Fixed.{planes_in_all, scratch_planes, side_top, places_top, reach_top, log_top, word_bits}
@@ -13,7 +12,7 @@ use Rattle.plate_model.specs.Layout.{Size, size_from, padded, places, place_at, 
 use Rattle.plate_model.specs.Lent.{State, state_of, Lent, LentLengths, lengths_of, ask, Inputs, Views, Canvas}
 use Rattle.plate_model.specs.Word.{shape_in, radius_in}
 use Rattle.plate_model.specs.Refusal.{Refusal, Sizes, Lengths, LogCount, Place, Value, UnknownShape, LargeRadius, LogFull}
-use Rattle.plate_model.specs.Refusal.{LogEmpty, StoredWord, UnlawfulLens, Depth, DepthInside, Accepted, Refused}
+use Rattle.plate_model.specs.Refusal.{LogEmpty, StoredWord, UnlawfulLens, Depth, DepthInside}
 use Rattle.plate_model.specs.Refusal.{refusal_number, open_check}
 use Rattle.plate_model.specs.Calls.{Left, refused, Shown, shows, answer_of, open_call, put_call, undo_call, fill_call, show_call}
 use Rattle.plate_model.specs.Kept.{Refreshed, leaves_kept, put_kept_call, undo_kept_call, ShownKept, shows_kept, show_kept_call}
@@ -94,9 +93,9 @@ abbrev pub ShapeAbove : ℕ → Type 0
 ShapeAbove n = shape_count ≤ n
 
 -- 7: "r above top under R", the top of the shape that is read
-unfoldable pub RadiusAbove : ℕ → ShapeRead → ℕ → Type 0
-RadiusAbove R Unknown r = ⊥
-RadiusAbove R (Known s) r = top_under s R < r
+unfoldable pub RadiusAbove : ℕ → Option Shape → ℕ → Type 0
+RadiusAbove R None r = ⊥
+RadiusAbove R (Some s) r = top_under s R < r
 
 -- 8: "put: count equals log length"
 abbrev pub CountFull : State → Lent → Type 0
@@ -241,21 +240,21 @@ abbrev pub GoesBy : List (TableRow Refusal) → State → Lent → Left → Type
 GoesBy rows s l call = CallBy rows (λ (c : Left). c.answer.number) (λ f. refused f s l) call
 
 abbrev pub ShowGoesBy : List (TableRow Refusal) → State → Views → Shown → Type 0
-ShowGoesBy rows s v call = CallBy rows (λ (c : Shown). c.answer.number) (λ f. shows (answer_of (Refused f) 0 s) v) call
+ShowGoesBy rows s v call = CallBy rows (λ (c : Shown). c.answer.number) (λ f. shows (answer_of (Err f) 0 s) v) call
 
 -- the second forms
 abbrev pub KeptGoesBy : List (TableRow Refusal) → State → Lent → Canvas → Refreshed → Type 0
 KeptGoesBy rows s l k call =
-    CallBy rows (λ (c : Refreshed). c.call.answer.number) (λ f. leaves_kept (answer_of (Refused f) 0 s) l k) call
+    CallBy rows (λ (c : Refreshed). c.call.answer.number) (λ f. leaves_kept (answer_of (Err f) 0 s) l k) call
 
 abbrev pub ShowKeptGoesBy : List (TableRow Refusal) → State → Views → List ℕ → ShownKept → Type 0
 ShowKeptGoesBy rows s v sums call =
-    CallBy rows (λ (c : ShownKept). c.call.answer.number) (λ f. shows_kept (answer_of (Refused f) 0 s) v sums) call
+    CallBy rows (λ (c : ShownKept). c.call.answer.number) (λ f. shows_kept (answer_of (Err f) 0 s) v sums) call
 
 -- a total, whose sums are then 0
 abbrev pub TotalGoesBy : List (TableRow Refusal) → State → List ℕ → Totalled → Type 0
 TotalGoesBy rows s scratch call =
-    CallBy rows (λ (c : Totalled). c.answer.number) (λ f. totalled (no_totals (answer_of (Refused f) 0 s)) scratch) call
+    CallBy rows (λ (c : Totalled). c.answer.number) (λ f. totalled (no_totals (answer_of (Err f) 0 s)) scratch) call
 
 -- "Any call of a public entry, with any sizes, buffers, stored words .., gets the finished work or exactly the refusal the
 -- paper's table fixes"; the state is "all zero from open"
@@ -278,4 +277,4 @@ pub record Demand1 : Type 0 where
 -- PLATES THERE ARE
 -- every open with lawful sizes and right lengths is accepted, so that demands 2 and 3 speak of every plate
 abbrev pub OpenAccepts : Type 0
-OpenAccepts = (z : Size) (l : Lent) → LawfulSize z → LentFor z (lengths_of l) → open_check z (lengths_of l) ≡ Accepted
+OpenAccepts = (z : Size) (l : Lent) → LawfulSize z → LentFor z (lengths_of l) → open_check z (lengths_of l) ≡ Ok tt

@@ -1,10 +1,10 @@
 -- The light and matte that a plate holds in all.
-use Rattle.std.specs.Prelude.{List, ℕ, ◌%◌, ◌^◌, length}
+use Rattle.std.specs.Prelude.{List, ℕ, ◌%◌, ◌^◌, length, Ok, Err}
 use Rattle.kernels_model.specs.Fixed.{planes_each}
 use Rattle.kernels_model.specs.Sum.{sum, finish}
 use Rattle.plate_model.specs.Layout.{Size, wide, high}
 use Rattle.plate_model.specs.Lent.{State}
-use Rattle.plate_model.specs.Refusal.{Answer, Returned, returned, Outcome, Accepted, Refused, total_check}
+use Rattle.plate_model.specs.Refusal.{Answer, Returned, returned, Outcome, total_check}
 use Rattle.kernels_model.specs.Listed.{zeros}
 use Rattle.plate_model.specs.Calls.{answer_of, stored}
 pub use Rattle.plate_model.specs.declared.total.Totals.{Totals}
@@ -33,10 +33,10 @@ no_totals a = totals_of a 0 0
 
 -- "Lent planes and scratch, left as show leaves them, give the sums"
 unfoldable pub total_by : Outcome → State → List ℕ → List ℕ → Totalled
-total_by (Refused f) s planes scratch = totalled (no_totals (answer_of (Refused f) 0 s)) scratch
-total_by Accepted s planes scratch =
+total_by (Err f) s planes scratch = totalled (no_totals (answer_of (Err f) 0 s)) scratch
+total_by (Ok tt) s planes scratch =
     let z = s.size in
-    totalled (totals_of (answer_of Accepted 0 s) (held_from z planes planes_each) (held_from z planes 0)) (zeros (length scratch))
+    totalled (totals_of (answer_of (Ok tt) 0 s) (held_from z planes planes_each) (held_from z planes 0)) (zeros (length scratch))
 
 unfoldable pub total_call : State → List ℕ → List ℕ → Totalled
 total_call s planes scratch = total_by (total_check s.size (length planes) (length scratch)) s planes scratch

@@ -1,19 +1,14 @@
 -- Pixels, their words, and log entries.
-use Rattle.std.specs.Prelude.{ℕ, ◌+◌, ◌*◌, ◌/◌, ◌%◌, ◌^◌, ◌≤◌, ◌<◌, leb, ltb}
+use Rattle.std.specs.Prelude.{ℕ, ◌+◌, ◌*◌, ◌/◌, ◌%◌, ◌^◌, ◌≤◌, ◌<◌, leb, ltb, Option, Some, None}
 use Rattle.kernels_model.specs.Fixed.{value_top}
 use Rattle.kernels_model.specs.Choice.{pick}
 use Rattle.kernels_model.specs.declared.shape.Shape.TheVariants.{Box}
-use Rattle.kernels_model.specs.declared.shape.ShapeRead.{ShapeRead}
-use Rattle.kernels_model.specs.declared.shape.ShapeRead.TheVariants.{Known, Unknown}
 use Rattle.kernels_model.specs.Shape.{number_of, shape_of, top_under}
+use Rattle.kernels_model.specs.declared.shape.Shape.{Shape}
 use Rattle.plate_model.specs.Fixed.{word_bits}
 use Rattle.plate_model.specs.Layout.{Size, places}
 pub use Rattle.plate_model.specs.declared.word.Pixel.{Pixel}
-pub use Rattle.plate_model.specs.declared.word.Unpacked.{Unpacked}
-pub use Rattle.plate_model.specs.declared.word.Unpacked.TheVariants.{Whole, Broken}
 pub use Rattle.plate_model.specs.declared.word.Entry.{Entry}
-pub use Rattle.plate_model.specs.declared.word.EntryRead.{EntryRead}
-pub use Rattle.plate_model.specs.declared.word.EntryRead.TheVariants.{Logged, Unreadable}
 
 -- "Word 0 is the empty pixel."
 abbrev pub empty : Pixel
@@ -37,14 +32,14 @@ abbrev pub radius_in : ℕ → ℕ
 radius_in w = w / 2 ^ 24 % 256
 
 -- a word under R: broken where it "breaks .. 6, 7 or the zero bits" of the table of refusals
-abbrev pub pixel_in : ℕ → ℕ → ShapeRead → Unpacked
-pixel_in R w Unknown = Broken
-pixel_in R w (Known s) =
-    pick (ltb (top_under s R) (radius_in w)) Broken
-    (Whole (record { value = w % 2 ^ 12; opacity = w / 2 ^ 12 % 256; shape = s; radius = radius_in w }))
+abbrev pub pixel_in : ℕ → ℕ → Option Shape → Option Pixel
+pixel_in R w None = None
+pixel_in R w (Some s) =
+    pick (ltb (top_under s R) (radius_in w)) None
+    (Some (record { value = w % 2 ^ 12; opacity = w / 2 ^ 12 % 256; shape = s; radius = radius_in w }))
 
-unfoldable pub read_word : ℕ → ℕ → Unpacked
-read_word R w = pick (leb (2 ^ word_bits) w) Broken (pixel_in R w (shape_of (shape_in w)))
+unfoldable pub read_word : ℕ → ℕ → Option Pixel
+read_word R w = pick (leb (2 ^ word_bits) w) None (pixel_in R w (shape_of (shape_in w)))
 
 -- "entries of 64 bits (word + 2^32 × place, ..)"
 abbrev pub logged_as : ℕ → ℕ → ℕ
@@ -54,10 +49,10 @@ abbrev pub entry_of : Entry → ℕ
 entry_of e = logged_as (word_of e.pixel) e.place
 
 -- an entry of a plate: unreadable where its place breaks 4 or its word is broken
-abbrev pub entry_in : ℕ → Unpacked → EntryRead
-entry_in i Broken = Unreadable
-entry_in i (Whole p) = Logged (record { place = i; pixel = p })
+abbrev pub entry_in : ℕ → Option Pixel → Option Entry
+entry_in i None = None
+entry_in i (Some p) = Some (record { place = i; pixel = p })
 
-unfoldable pub read_entry : Size → ℕ → EntryRead
+unfoldable pub read_entry : Size → ℕ → Option Entry
 read_entry z e =
-    pick (leb (places z) (e / 2 ^ word_bits)) Unreadable (entry_in (e / 2 ^ word_bits) (read_word z.reach (e % 2 ^ word_bits)))
+    pick (leb (places z) (e / 2 ^ word_bits)) None (entry_in (e / 2 ^ word_bits) (read_word z.reach (e % 2 ^ word_bits)))

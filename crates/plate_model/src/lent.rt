@@ -1,19 +1,19 @@
 // What calls are given, and the lengths of what they are lent.
-use kernels_model::shape::ShapeRead;
+use kernels_model::shape::Shape;
 
-// What a put asks for: a place, and a pixel with its shape as it was read.
-#[derive(Clone, Copy)]
+// What a put asks for: a place, and a pixel, with no shape where its number names none.
+#[derive(Clone, Copy, Debug, PartialEq, Eq)]
 pub struct Ask {
     pub x: usize,
     pub y: usize,
     pub value: u16,
     pub opacity: u8,
-    pub shape: ShapeRead,
+    pub shape: Option<Shape>,
     pub radius: u8,
 }
 
 // The lengths of planes, pixels and log.
-#[derive(Clone, Copy)]
+#[derive(Clone, Copy, Debug, PartialEq, Eq)]
 pub struct LentLengths {
     pub planes: usize,
     pub pixels: usize,

@@ -1,7 +1,7 @@
-// A pixel, a log entry, and what a stored word says.
+// A pixel and a log entry.
 use kernels_model::shape::Shape;
 
-#[derive(Clone, Copy)]
+#[derive(Clone, Copy, Debug, PartialEq, Eq)]
 pub struct Pixel {
     pub value: u16,
     pub opacity: u8,
@@ -9,23 +9,9 @@ pub struct Pixel {
     pub radius: u8,
 }
 
-// What a stored word says.
-#[derive(Clone, Copy)]
-pub enum Unpacked {
-    Whole(Pixel),
-    Broken,
-}
-
 // A pixel that a put replaced, and its place.
-#[derive(Clone, Copy)]
+#[derive(Clone, Copy, Debug, PartialEq, Eq)]
 pub struct Entry {
     pub place: usize,
     pub pixel: Pixel,
-}
-
-// What a log entry says.
-#[derive(Clone, Copy)]
-pub enum EntryRead {
-    Logged(Entry),
-    Unreadable,
 }

@@ -3,141 +3,183 @@
 // kept under the brush, and these are printed.
 #![tactic(auto)]
 
-use plate::{Lens, State};
+use plate::{Lens, Lent, State};
 use std::io;
 
-fn print_cell(rt: &impl Print, value: u16, matte: u8, end: &str) -> io::Result<()> {
-    print!(rt; "{value}/{matte}{end}")
-}
+// The cells of the planes, of the scratch, and the pixels.
+const PLANES: usize = 1386;
 
-fn print_pictures(rt: &impl Print, values: &[u16; 3], mattes: &[u8; 3]) -> io::Result<()> {
-    print_cell(rt, values[0], mattes[0], " ")?;
-    print_cell(rt, values[1], mattes[1], " ")?;
-    print_cell(rt, values[2], mattes[2], "\n")
-}
+const SCRATCH: usize = 297;
 
-fn print_show(rt: &impl Print, state: State, planes: &[u64]) -> io::Result<()> {
-    let mut scratch = [0u64; 297];
-    let mut values = [0u16; 3];
-    let mut mattes = [0u8; 3];
-    plate::show::show(state, planes, &mut scratch, &mut values, &mut mattes);
-    print_pictures(rt, &values, &mattes)
-}
+const PLACES: usize = 3;
 
-fn print_total(rt: &impl Print, state: State, planes: &[u64]) -> io::Result<()> {
-    let mut scratch = [0u64; 297];
-    let totals = plate::total::total(state, planes, &mut scratch);
-    let light = totals.light;
-    let matte = totals.matte;
-    println!(rt; "total {light}/{matte}")
-}
-
-// An opaque box.
-fn put(
+// The plate, with all that its calls are lent.
+#[derive(Drop)]
+struct Plate {
     state: State,
-    x: usize,
-    value: u16,
-    radius: u8,
-    planes: &mut [u64],
-    pixels: &mut [u64],
-    log: &mut [u64],
-) -> State {
-    let answer = plate::put::put(state, x, 0, value, 255, 0, radius, planes, pixels, log);
-    answer.state
+    planes: [u64; PLANES],
+    pixels: [u64; PLACES],
+    log: [u64; 2],
+    scratch: [u64; SCRATCH],
+    values: [u16; PLACES],
+    mattes: [u8; PLACES],
+    sums: [u64; 2 * PLACES],
 }
 
-// A layer in three depths, in diamonds.
-fn fill(state: State, planes: &mut [u64], pixels: &mut [u64], log: &mut [u64]) -> State {
-    let lens = Lens {
-        opening: 250,
-        focal: 500,
-        focus: 20000,
-        pitch: 50,
-    };
-    let filled = plate::fill::fill(
-        state,
-        lens,
-        3,
-        &[1000, 2000, 3000],
-        &[255, 128, 255],
-        &[20000, 40000, 0],
-        planes,
-        pixels,
-        log,
-    );
-    filled.state
-}
+impl Plate {
+    fn opened() -> Plate {
+        let mut plate = Plate {
+            state: State::default(),
+            planes: [0; PLANES],
+            pixels: [0; PLACES],
+            log: [0; 2],
+            scratch: [0; SCRATCH],
+            values: [0; PLACES],
+            mattes: [0; PLACES],
+            sums: [0; 2 * PLACES],
+        };
+        plate.state = plate.lent().open(3, 1, 1).state;
+        plate
+    }
 
-// An opaque box of radius 1, put with sums and pictures mended.
-fn put_pixel(
-    state: State,
-    planes: &mut [u64],
-    pixels: &mut [u64],
-    log: &mut [u64],
-    sums: &mut [u64],
-    values: &mut [u16],
-    mattes: &mut [u8],
-) -> State {
-    let answer = plate::kept::put_kept(
-        state, 0, 0, 40, 255, 0, 1, planes, pixels, log, sums, values, mattes,
-    );
-    answer.state
-}
+    // What a put, an undo and a fill are lent.
+    fn lent(&mut self) -> Lent<'_> {
+        let planes = &mut self.planes;
+        let pixels = &mut self.pixels;
+        let log = &mut self.log;
+        Lent {
+            planes,
+            pixels,
+            log,
+        }
+    }
 
-// A box put and taken back. The first show keeps its sums, and put and undo mend them and the pictures.
-fn paint(
-    rt: &impl Print,
-    state: State,
-    planes: &mut [u64; 1386],
-    pixels: &mut [u64; 3],
-    log: &mut [u64; 2],
-) -> io::Result<()> {
-    let mut scratch = [0u64; 297];
-    let mut values = [0u16; 3];
-    let mut mattes = [0u8; 3];
-    let mut sums = [0u64; 6];
-    plate::kept::show_kept(
-        state,
-        planes,
-        &mut scratch,
-        &mut values,
-        &mut mattes,
-        &mut sums,
-    );
-    let put = put_pixel(
-        state,
-        planes,
-        pixels,
-        log,
-        &mut sums,
-        &mut values,
-        &mut mattes,
-    );
-    print_pictures(rt, &values, &mattes)?;
-    plate::kept::undo_kept(
-        put,
-        planes,
-        pixels,
-        log,
-        &mut sums,
-        &mut values,
-        &mut mattes,
-    );
-    print_pictures(rt, &values, &mattes)
+    // An opaque box.
+    fn put(&mut self, x: usize, value: u16, radius: u8) {
+        let state = self.state;
+        let answer = self.lent().put(state, x, 0, value, 255, 0, radius);
+        self.state = answer.state;
+    }
+
+    fn undo(&mut self) {
+        let state = self.state;
+        let answer = self.lent().undo(state);
+        self.state = answer.state;
+    }
+
+    // A layer in three depths, in diamonds.
+    fn fill(&mut self) {
+        let state = self.state;
+        let lens = Lens {
+            opening: 250,
+            focal: 500,
+            focus: 20000,
+            pitch: 50,
+        };
+        let answer = self.lent().fill(
+            state,
+            lens,
+            3,
+            &[1000, 2000, 3000],
+            &[255, 128, 255],
+            &[20000, 40000, 0],
+        );
+        self.state = answer.state;
+    }
+
+    fn show(&mut self) {
+        plate::show::show(
+            self.state,
+            &self.planes,
+            &mut self.scratch,
+            &mut self.values,
+            &mut self.mattes,
+        );
+    }
+
+    // A show that keeps its sums, which a put and an undo then mend with the pictures.
+    fn show_kept(&mut self) {
+        plate::kept::show_kept(
+            self.state,
+            &self.planes,
+            &mut self.scratch,
+            &mut self.values,
+            &mut self.mattes,
+            &mut self.sums,
+        );
+    }
+
+    // An opaque box of radius 1.
+    fn put_kept(&mut self) {
+        let mut lent = Lent {
+            planes: &mut self.planes,
+            pixels: &mut self.pixels,
+            log: &mut self.log,
+        };
+        let answer = lent.put_kept(
+            self.state,
+            0,
+            0,
+            40,
+            255,
+            0,
+            1,
+            &mut self.sums,
+            &mut self.values,
+            &mut self.mattes,
+        );
+        self.state = answer.state;
+    }
+
+    fn undo_kept(&mut self) {
+        let mut lent = Lent {
+            planes: &mut self.planes,
+            pixels: &mut self.pixels,
+            log: &mut self.log,
+        };
+        let answer = lent.undo_kept(
+            self.state,
+            &mut self.sums,
+            &mut self.values,
+            &mut self.mattes,
+        );
+        self.state = answer.state;
+    }
+
+    fn print_pictures(&self, rt: &impl Print) -> io::Result<()> {
+        for (x, (value, matte)) in self.values.iter().zip(&self.mattes).enumerate() {
+            if 0 < x {
+                print!(rt; " ")?;
+            }
+            print!(rt; "{value}/{matte}")?;
+        }
+        println!(rt)
+    }
+
+    fn print_total(&mut self, rt: &impl Print) -> io::Result<()> {
+        let totals = plate::total::total(self.state, &self.planes, &mut self.scratch);
+        let light = totals.light;
+        let matte = totals.matte;
+        println!(rt; "total {light}/{matte}")
+    }
 }
 
 fn main(rt: HostRuntime) -> io::Result<()> {
-    let mut planes = [0u64; 1386];
-    let mut pixels = [0u64; 3];
-    let mut log = [0u64; 2];
-    let opened = plate::open::open(3, 1, 1, &mut planes, &mut pixels, &mut log);
-    let first = put(opened.state, 1, 100, 1, &mut planes, &mut pixels, &mut log);
-    let second = put(first, 0, 40, 0, &mut planes, &mut pixels, &mut log);
-    print_show(&rt, second, &planes)?;
-    print_total(&rt, second, &planes)?;
-    let undone = plate::undo::undo(second, &mut planes, &mut pixels, &mut log);
-    print_show(&rt, undone.state, &planes)?;
-    let filled = fill(undone.state, &mut planes, &mut pixels, &mut log);
-    print_show(&rt, filled, &planes)?;
-    paint(&rt, filled, &mut planes, &mut pixels, &mut log)
+    let mut plate = Plate::opened();
+    plate.put(1, 100, 1);
+    plate.put(0, 40, 0);
+    plate.show();
+    plate.print_pictures(&rt)?;
+    plate.print_total(&rt)?;
+    plate.undo();
+    plate.show();
+    plate.print_pictures(&rt)?;
+    plate.fill();
+    plate.show();
+    plate.print_pictures(&rt)?;
+    plate.show_kept();
+    plate.put_kept();
+    plate.print_pictures(&rt)?;
+    plate.undo_kept();
+    plate.print_pictures(&rt)
 }

@@ -1,5 +1,4 @@
 -- Laws that the proofs of functions cite.
 pub mod Writing
-pub mod Reading
 pub mod Calls
 pub mod Lending

@@ -1,7 +1,9 @@
--- The lengths that the code of a record counts on.
-use Rattle.std.specs.Prelude.{◌≡◌, List, ℕ, ◌+◌, ◌*◌, ◌≤◌, length}
-use Rattle.plate_model.specs.Layout.{padded}
-use Rattle.records_model.specs.Fixed.{cells_top, planes_room, scratch_room, text_room}
+-- The lengths that the code of a record's text counts on.
+use Rattle.std.specs.Prelude.{◌≡◌, ℕ, ◌+◌, ◌*◌, ◌≤◌, ◌<◌, Option, MatchOption}
+use Rattle.plate_model.specs.declared.size.Size.{Size}
+use Rattle.plate_model.specs.Layout.{padded, places}
+use Rattle.records_model.specs.Fixed.{cells_top}
+use Rattle.records.specs.declared.request.LentCounts.{LentCounts}
 use Rattle.records_model.specs.declared.effect.Reply.{Reply}
 use Rattle.records_model.specs.declared.effect.Reply.TheVariants.{Nothing, StoppedBy, RefusedBy, Pictures}
 
@@ -25,36 +27,19 @@ row_room w = (cell_room + 1) * w
 abbrev pub rows_room : ℕ → ℕ → ℕ
 rows_room w h = (row_room w + 1) * h
 
--- n bytes for the text of the m cells from place i on
-pub record CellsRoom (n i m : ℕ) (out values mattes : List ℕ) : Type 0 where
-  pub out_room : n ≤ length out
-  pub values_room : i + m ≤ length values
-  pub mattes_room : i + m ≤ length mattes
+-- a show has rows that are not empty, and few enough cells for its text to fit
+pub record PrintableSize (z : Size) : Type 0 where
+  pub some : 0 < z.width
+  pub few : padded z ≤ cells_top
 
--- and for a show of h rows of w cells from a place on, with its head
-abbrev pub ShowRoom : ℕ → ℕ → ℕ → List ℕ → List ℕ → List ℕ → Type 0
-ShowRoom at w h out values mattes = CellsRoom (at + line_room + rows_room w h) 0 (h * w) out values mattes
+abbrev pub Printable : Reply → Type 0
+Printable Nothing = Unit {0}
+Printable (StoppedBy s) = Unit {0}
+Printable (RefusedBy n) = Unit {0}
+Printable (Pictures z) = PrintableSize z
 
--- a show of few enough cells for its text to fit
-abbrev pub FewCells : Reply → Type 0
-FewCells Nothing = Unit {0}
-FewCells (StoppedBy s) = Unit {0}
-FewCells (RefusedBy n) = Unit {0}
-FewCells (Pictures z) = padded z ≤ cells_top
-
--- room for a reply's text from a place on
-pub record ReplyRoom (at : ℕ) (r : Reply) (out : List ℕ) : Type 0 where
-  pub out_room : at + text_room ≤ length out
-  pub few_cells : FewCells r
-
--- the buffers of a request
-pub record PlateRoom (planes pixels : List ℕ) : Type 0 where
-  pub planes_are : length planes ≡ planes_room
-  pub pixels_are : length pixels ≡ cells_top
-
--- and those of a show
-pub record PictureRoom (planes scratch values mattes : List ℕ) : Type 0 where
-  pub planes_are : length planes ≡ planes_room
-  pub scratch_is : length scratch ≡ scratch_room
-  pub values_are : length values ≡ cells_top
-  pub mattes_are : length mattes ≡ cells_top
+-- the cells and places of a plate, or none where its cells are more than there is room for
+abbrev pub CountedFor : Size → Option LentCounts → Type 0
+CountedFor z counts =
+    MatchOption counts (cells_top < padded z)
+    (λ n. (padded z ≤ cells_top) × (n.cells ≡ padded z) × (n.places ≡ places z))

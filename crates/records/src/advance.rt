@@ -1,74 +1,55 @@
 // A part of the input: as much of it is taken as there is room for the text of.
-ghost use Rattle.std.specs.Prelude.{◌≡◌};
-ghost use Rattle.records_model.specs.Machine.{at_entry, at_exit, feed_of, advance_left, advance_call};
-ghost use Rattle.records.specs.Fed.{OneMore, fed_after};
+ghost use Rattle.std.specs.Prelude.{◌≡◌, ◌≤◌};
+ghost use Rattle.records_model.specs.Fixed.{buffer_room, text_room};
+ghost use Rattle.records_model.specs.Machine.{feed_of, advance_left, advance_call};
+ghost use Rattle.records.specs.Written.{HasRoom, Writes};
 
-use crate::machine::{moved, take};
+use crate::machine::take;
 use crate::perform::perform;
-use crate::text;
+use crate::text::Writer;
 use records_model::advance::Advanced;
-use records_model::fixed::{FULL, Log, Mattes, Pixels, Planes, Scratch, Text, Values};
+use records_model::buffers::Buffers;
+use records_model::fixed::{FULL, Text};
 use records_model::machine::Machine;
 
 // One byte more, its text after what stands there already.
-fn feed(
-    before: Advanced,
-    byte: u8,
-    planes: &mut Planes,
-    pixels: &mut Pixels,
-    log: &mut Log,
-    scratch: &mut Scratch,
-    values: &mut Values,
-    mattes: &mut Mattes,
-    out: &mut [u8],
-) -> Advanced
-    requires { OneMore before out.old }
-    ensures { advance_left result (at_exit planes pixels log scratch values mattes) out.new
-        ≡ fed_after before (feed_of before.machine byte (at_entry planes pixels log scratch values mattes)) out.old }
+fn feed(machine: Machine, byte: u8, buffers: &mut Buffers, text: &mut Writer) -> Machine
+    requires { HasRoom text_room text.old }
+    ensures machine { result ≡ (feed_of machine byte buffers.old).machine }
+    ensures buffers { buffers.new ≡ (feed_of machine byte buffers.old).buffers }
+    ensures text { Writes text.old (feed_of machine byte buffers.old).text text.new }
 {
-    let machine = before.machine;
     let taken = take(machine, byte);
     let next = taken.machine;
-    let task = taken.task;
-    let effect = perform(task, planes, pixels, log, scratch, values, mattes);
-    let stage = effect.stage;
-    let reply = effect.reply;
-    let written = text::reply(out, before.written, reply, next.count, values, mattes);
-    Advanced {
-        machine: moved(next, stage),
-        consumed: before.consumed + 1,
-        written: written,
+    let effect = perform(taken.task, buffers);
+    text.reply(effect.reply, next.count, buffers);
+    Machine {
+        stage: effect.stage,
+        ..next
     }
 }
 
 // A part of the input: the machine after the bytes that were taken, with their text at the start of `out`. All are taken, unless
 // the text of one record more might not fit; then the rest is for the next call.
-pub fn advance(
-    m: Machine,
-    input: &[u8],
-    planes: &mut Planes,
-    pixels: &mut Pixels,
-    log: &mut Log,
-    scratch: &mut Scratch,
-    values: &mut Values,
-    mattes: &mut Mattes,
-    out: &mut Text,
-) -> Advanced
-    ensures { advance_left result (at_exit planes pixels log scratch values mattes) out.new
-        ≡ advance_call m input.now (at_entry planes pixels log scratch values mattes) out.old }
+pub fn advance(m: Machine, input: &[u8], buffers: &mut Buffers, out: &mut Text) -> Advanced
+    ensures left { advance_left result buffers.new out.new ≡ advance_call m input.now buffers.old out.old }
+    ensures within { result.written ≤ buffer_room }
 {
-    let mut so_far = Advanced {
-        machine: m,
-        consumed: 0,
-        written: 0,
-    };
-    for i in 0..input.len() {
-        if FULL < so_far.written {
-            return so_far;
+    let mut machine = m;
+    let mut text = Writer::new(out);
+    for (consumed, byte) in input.iter().enumerate() {
+        if FULL < text.at {
+            return Advanced {
+                machine,
+                consumed,
+                written: text.at,
+            };
         }
-        so_far = feed(
-            so_far, input[i], planes, pixels, log, scratch, values, mattes, out,
-        );
+        machine = feed(machine, *byte, buffers, &mut text);
     }
-    so_far
+    Advanced {
+        machine,
+        consumed: input.len(),
+        written: text.at,
+    }
 }

@@ -9,5 +9,6 @@ mod request;
 mod text;
 
 pub use records_model::advance::Advanced;
-pub use records_model::fixed::{Log, Mattes, Pixels, Planes, Scratch, Text, Values};
+pub use records_model::buffers::Buffers;
+pub use records_model::fixed::Text;
 pub use records_model::machine::Machine;

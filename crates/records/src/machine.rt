@@ -1,16 +1,18 @@
 // The machine: what a byte makes of it before anything is done, and its end.
-ghost use Rattle.std.specs.Prelude.{◌≡◌, ◌≤◌, length};
-ghost use Rattle.records_model.specs.Fixed.{text_room};
-ghost use Rattle.records_model.specs.Machine.{ended_at, fresh, standing, settled_of, begun_of, carried_of, taken_of};
+ghost use Rattle.std.specs.Prelude.{◌≡◌, ◌≤◌};
+ghost use Rattle.records_model.specs.Fixed.{buffer_room, text_room};
+ghost use Rattle.records_model.specs.Machine.{ended_at, fresh, zeroed, settled_of, begun_of, carried_of, taken_of};
 ghost use Rattle.records_model.specs.Machine.{end_text, finish_left, finish_call};
-ghost use Rattle.records.specs.Written.{Wrote};
+ghost use Rattle.records.specs.Written.{HasRoom, Writes};
 
 use crate::perform::task;
-use crate::{record, text};
+use crate::record;
+use crate::text::Writer;
+use records_model::buffers::Buffers;
 use records_model::effect::Stage;
-use records_model::fixed::{BODY, Text};
+use records_model::fixed::{BODY, CELLS, LOG, PLANE_CELLS, SCRATCH_CELLS, Text};
 use records_model::machine::{Machine, Taken};
-use records_model::record::{BodyLength, Stop};
+use records_model::record::Stop;
 use records_model::request::Task;
 
 // The machine before the first byte.
@@ -27,113 +29,96 @@ pub fn start() -> Machine
     }
 }
 
+// And its buffers.
+pub fn zeroed() -> Buffers
+    ensures { result ≡ zeroed }
+{
+    Buffers {
+        planes: [0; PLANE_CELLS],
+        pixels: [0; CELLS],
+        log: [0; LOG],
+        scratch: [0; SCRATCH_CELLS],
+        values: [0; CELLS],
+        mattes: [0; CELLS],
+    }
+}
+
 // Whether a run has stopped: no byte after that changes anything.
 pub fn ended(m: Machine) -> bool
     ensures { result ≡ ended_at m.stage }
 {
-    let stage = m.stage;
-    match stage {
-        Stage::Closed => false,
-        Stage::Opened(_) => false,
-        Stage::Ended => true,
-    }
-}
-
-// The same machine, standing elsewhere.
-pub(crate) fn moved(m: Machine, stage: Stage) -> Machine
-    ensures { result ≡ standing m stage }
-{
-    let body = m.body;
-    Machine {
-        stage: stage,
-        kind: m.kind,
-        held: m.held,
-        whole: m.whole,
-        body: body,
-        count: m.count,
-    }
+    matches!(m.stage, Stage::Ended)
 }
 
 // A record is done as soon as its body is whole.
+#[tactic(auto, unfolding(records_model::specs::Machine::settled_of))]
 fn settled(m: Machine) -> Taken
     ensures { result ≡ settled_of m }
 {
-    let stage = m.stage;
     if m.held < m.whole {
         return Taken {
             machine: m,
-            task: Task::ToStand(stage),
+            task: Task::ToStand(m.stage),
         };
     }
-    let body = m.body;
-    let item = record::read(m.kind, body);
+    let item = record::read(m.kind, m.body);
     Taken {
         machine: m,
-        task: task(stage, item),
+        task: task(m.stage, item),
     }
 }
 
 // A byte of kind begins a record.
+#[tactic(auto, unfolding(records_model::specs::Machine::begun_of, records_model::specs::Machine::begun_by))]
 fn begun(m: Machine, byte: u8) -> Taken
     ensures { result ≡ begun_of m byte }
 {
-    let stage = m.stage;
-    let body = m.body;
-    if u64::MAX <= m.count {
+    let Some(count) = m.count.checked_add(1) else {
         return Taken {
             machine: m,
             task: Task::ToStand(Stage::Ended),
         };
-    }
-    let count = m.count + 1;
+    };
+    let machine = Machine {
+        kind: byte,
+        count,
+        ..m
+    };
     match record::body_length(byte) {
-        BodyLength::Bytes(n) => settled(Machine {
-            stage: stage,
-            kind: byte,
+        Some(whole) => settled(Machine {
             held: 0,
-            whole: n,
-            body: body,
-            count: count,
+            whole,
+            ..machine
         }),
-        BodyLength::NoKind => Taken {
-            machine: Machine {
-                stage: stage,
-                kind: byte,
-                held: m.held,
-                whole: m.whole,
-                body: body,
-                count: count,
-            },
+        None => Taken {
+            machine,
             task: Task::ToStop(Stop::Kind),
         },
     }
 }
 
 // A byte of a body goes to its place.
+#[tactic(auto, unfolding(records_model::specs::Machine::carried_of))]
 fn carried(m: Machine, byte: u8) -> Taken
     ensures { result ≡ carried_of m byte }
 {
-    let stage = m.stage;
-    let mut body = m.body;
-    let held = m.held;
-    if BODY <= held {
+    if BODY <= m.held {
         return Taken {
             machine: m,
             task: Task::ToStand(Stage::Ended),
         };
     }
-    body[held] = byte;
+    let mut body = m.body;
+    body[m.held] = byte;
     settled(Machine {
-        stage: stage,
-        kind: m.kind,
-        held: held + 1,
-        whole: m.whole,
-        body: body,
-        count: m.count,
+        held: m.held + 1,
+        body,
+        ..m
     })
 }
 
 // A byte taken in: no byte after a stop changes anything.
+#[tactic(auto, unfolding(records_model::specs::Machine::taken_of))]
 pub(crate) fn take(m: Machine, byte: u8) -> Taken
     ensures { result ≡ taken_of m byte }
 {
@@ -150,22 +135,26 @@ pub(crate) fn take(m: Machine, byte: u8) -> Taken
 }
 
 // The end of a run that has not stopped: 14 where a body is cut short, else the record count.
-fn end(m: Machine, out: &mut [u8]) -> usize
-    requires { text_room ≤ length out.old }
-    ensures { Wrote out.old 0 (end_text m) out.new result }
+#[tactic(auto, unfolding(records_model::specs::Machine::end_text))]
+fn end(m: Machine, text: &mut Writer)
+    requires { HasRoom text_room text.old }
+    ensures { Writes text.old (end_text m) text.new }
 {
     if m.held < m.whole {
-        return text::stopped(out, 0, Stop::Body, m.count);
+        return text.stopped(Stop::Body, m.count);
     }
-    text::done(out, m.count)
+    text.done(m.count);
 }
 
 // The end of the input: how many bytes of text stand at the start of `out` then.
 pub fn finish(m: Machine, out: &mut Text) -> usize
-    ensures { finish_left out.new result ≡ finish_call m out.old }
+    ensures left { finish_left out.new result ≡ finish_call m out.old }
+    ensures within { result ≤ buffer_room }
 {
     if ended(m) {
         return 0;
     }
-    end(m, out)
+    let mut text = Writer::new(out);
+    end(m, &mut text);
+    text.at
 }

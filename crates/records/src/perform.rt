@@ -1,23 +1,16 @@
 // What a record asks for where a run stands, and its effect on the lent buffers.
 ghost use Rattle.std.specs.Prelude.{◌≡◌};
-ghost use Rattle.plate_model.specs.Refusal.{outcome_number, returned};
+ghost use Rattle.plate_model.specs.Refusal.{returned};
 ghost use Rattle.records_model.specs.declared.effect.Stage.TheVariants.{Closed, Opened};
-ghost use Rattle.records_model.specs.Machine.{at_entry, at_exit, stopping, going_on, opening, answered, task_of};
-ghost use Rattle.records.specs.Fed.{Performs};
+ghost use Rattle.records_model.specs.Machine.{stopping, going_on, opening, answered, task_of};
+ghost use Rattle.records.specs.Performed.{Performs};
 
-use crate::request::{call_on_front, put_request, shapeless_request, show_on_front};
-use plate::{Answer, Outcome, State};
+use crate::request::{call_on_front, put_request, show_on_front};
+use plate::{Answer, Ask, Refusal, State};
+use records_model::buffers::Buffers;
 use records_model::effect::{Effect, Reply, Stage};
-use records_model::fixed::{Log, Mattes, Pixels, Planes, Scratch, Values};
 use records_model::record::{Record, Stop};
 use records_model::request::{Request, Task};
-
-// The paper's number of an outcome, as wide as a line takes it.
-fn outcome_number(outcome: Outcome) -> u64
-    ensures { result ≡ outcome_number outcome }
-{
-    plate::state::number(outcome) as u64
-}
 
 // A run that stops.
 fn stopping(why: Stop) -> Effect
@@ -30,81 +23,74 @@ fn stopping(why: Stop) -> Effect
 }
 
 // A run that goes on: with this reply where its call is accepted.
+#[tactic(auto, unfolding(records_model::specs::Machine::going_on))]
 fn going_on(accepted: Reply, a: Answer) -> Effect
     ensures { result ≡ going_on accepted (returned a) }
 {
-    let outcome = a.outcome;
-    let state = a.state;
-    let number = outcome_number(outcome);
-    if number == 0 {
-        return Effect {
-            stage: Stage::Opened(state),
-            reply: accepted,
-        };
-    }
     Effect {
-        stage: Stage::Opened(state),
-        reply: Reply::RefusedBy(number),
+        stage: Stage::Opened(a.state),
+        reply: match a.outcome {
+            Ok(()) => accepted,
+            Err(why) => Reply::RefusedBy(u64::from(u32::from(why))),
+        },
     }
 }
 
 // An open: the plate refuses wrong sizes by 1, and one that it is lent no cells for by their lengths, which is 16.
+#[tactic(auto, unfolding(records_model::specs::Machine::opening))]
 fn opening(a: Answer) -> Effect
     ensures { result ≡ opening (returned a) }
 {
-    let outcome = a.outcome;
-    let state = a.state;
-    let number = outcome_number(outcome);
-    if number == 0 {
-        return Effect {
-            stage: Stage::Opened(state),
+    match a.outcome {
+        Ok(()) => Effect {
+            stage: Stage::Opened(a.state),
             reply: Reply::Nothing,
-        };
+        },
+        Err(Refusal::Sizes) => stopping(Stop::Sizes),
+        Err(_) => stopping(Stop::Cells),
     }
-    if number == 1 {
-        return stopping(Stop::Sizes);
-    }
-    stopping(Stop::Cells)
 }
 
 // What comes of the answer to a request.
+#[tactic(auto, unfolding(records_model::specs::Machine::answered))]
 fn answered(request: Request, a: Answer) -> Effect
     ensures { result ≡ answered request (returned a) }
 {
     match request {
         Request::ToOpen(_) => opening(a),
-        Request::ToPut(_) => going_on(Reply::Nothing, a),
-        Request::ToUndo(_) => going_on(Reply::Nothing, a),
+        Request::ToPut(_) | Request::ToUndo(_) => going_on(Reply::Nothing, a),
     }
 }
 
 // What a record asks for before any plate is open.
+#[tactic(auto, unfolding(records_model::specs::Machine::task_of))]
 fn closed_task(item: Record) -> Task
     ensures { result ≡ task_of Closed item }
 {
     match item {
         Record::Open(size) => Task::ToCall(Request::ToOpen(size)),
-        Record::Put(_) => Task::ToStop(Stop::Order),
-        Record::NoShape(_) => Task::ToStop(Stop::Order),
-        Record::Undo => Task::ToStop(Stop::Order),
-        Record::Show => Task::ToStop(Stop::Order),
+        Record::Put(_) | Record::NoShape(_) | Record::Undo | Record::Show => Task::ToStop(
+            Stop::Order,
+        ),
     }
 }
 
 // And on an open plate.
+#[tactic(auto, unfolding(records_model::specs::Machine::task_of))]
 fn opened_task(state: State, item: Record) -> Task
     ensures { result ≡ task_of (Opened state) item }
 {
     match item {
         Record::Open(_) => Task::ToStop(Stop::Order),
-        Record::Put(put) => Task::ToCall(put_request(state, put)),
-        Record::NoShape(put) => Task::ToCall(shapeless_request(state, put)),
+        Record::Put(put) => Task::ToCall(put_request(state, Ask::from(put))),
+        Record::NoShape(put) => Task::ToCall(put_request(state, Ask::from(put))),
         Record::Undo => Task::ToCall(Request::ToUndo(state)),
         Record::Show => Task::ToShow(state),
     }
 }
 
 // Wherever the run stands.
+#[tactic(auto, unfolding(records_model::specs::Machine::task_of))]
 pub(crate) fn task(stage: Stage, item: Record) -> Task
     ensures { result ≡ task_of stage item }
 {
@@ -116,32 +102,33 @@ pub(crate) fn task(stage: Stage, item: Record) -> Task
 }
 
 // The task done.
-pub(crate) fn perform(
-    task: Task,
-    planes: &mut Planes,
-    pixels: &mut Pixels,
-    log: &mut Log,
-    scratch: &mut Scratch,
-    values: &mut Values,
-    mattes: &mut Mattes,
-) -> Effect
-    ensures { Performs task (at_entry planes pixels log scratch values mattes) result
-        (at_exit planes pixels log scratch values mattes) }
+pub(crate) fn perform(task: Task, buffers: &mut Buffers) -> Effect
+    ensures { Performs task buffers.old result buffers.new }
 {
     match task {
         Task::ToStand(stage) => Effect {
-            stage: stage,
+            stage,
             reply: Reply::Nothing,
         },
         Task::ToStop(why) => stopping(why),
         Task::ToCall(request) => {
-            let a = call_on_front(request, planes, pixels, log);
+            let a = call_on_front(
+                request,
+                &mut buffers.planes,
+                &mut buffers.pixels,
+                &mut buffers.log,
+            );
             answered(request, a)
         }
         Task::ToShow(state) => {
-            let size = state.size;
-            let a = show_on_front(state, planes, scratch, values, mattes);
-            going_on(Reply::Pictures(size), a)
+            let a = show_on_front(
+                state,
+                &buffers.planes,
+                &mut buffers.scratch,
+                &mut buffers.values,
+                &mut buffers.mattes,
+            );
+            going_on(Reply::Pictures(state.size), a)
         }
     }
 }

@@ -1,103 +1,76 @@
 // Records, as they are read from the input.
-ghost use Rattle.std.specs.Prelude.{◌≡◌, ◌+◌, ◌*◌, ◌<◌, get_or};
+ghost use Rattle.std.specs.Prelude.{◌≡◌, ◌+◌, ◌<◌, get_or, length};
 ghost use Rattle.kernels_model.specs.Shape.{shape_of};
-ghost use Rattle.records_model.specs.Record.{stop_number, body_length, put_record, record_of};
+ghost use Rattle.records_model.specs.Record.{body_length, pair, put_record, record_of};
 
-use kernels::ShapeRead;
-use plate::Size;
+use plate::{Shape, Size};
 use plate_model::word::Pixel;
-use records_model::fixed::{Body, OPEN_BODY, PUT_BODY};
-use records_model::record::{BodyLength, PlacedPixel, Record, Shapeless, Stop};
+use records_model::fixed::{Body, OPEN, OPEN_BODY, PUT, PUT_BODY, SHOW, UNDO};
+use records_model::record::{PlacedPixel, Record, Shapeless};
 
-// The number of a stop in the paper's table.
-pub(crate) fn stop_number(s: Stop) -> u64
-    ensures { result ≡ stop_number s }
-{
-    match s {
-        Stop::Sizes => 1,
-        Stop::Kind => 13,
-        Stop::Body => 14,
-        Stop::Order => 15,
-        Stop::Cells => 16,
-    }
-}
-
-// The length of a kind's body.
-pub(crate) fn body_length(kind: u8) -> BodyLength
+// The length of a kind's body, if there is such a kind.
+pub(crate) fn body_length(kind: u8) -> Option<usize>
     ensures { result ≡ body_length kind }
 {
     match kind {
-        1 => BodyLength::Bytes(OPEN_BODY),
-        2 => BodyLength::Bytes(PUT_BODY),
-        3 => BodyLength::Bytes(0),
-        4 => BodyLength::Bytes(0),
-        _ => BodyLength::NoKind,
+        OPEN => Some(OPEN_BODY),
+        PUT => Some(PUT_BODY),
+        UNDO | SHOW => Some(0),
+        _ => None,
     }
 }
 
-// A byte as a number of two bytes.
-fn wide(b: u8) -> u16
-    ensures { (result ≡ b) × (result < 256) }
-{
-    b as u16
-}
-
 // Two bytes of a body, little-endian.
-fn two(low: u8, high: u8) -> u16
-    ensures { result ≡ low + 256 * high }
+fn pair(body: &Body, at: usize) -> u16
+    requires { at + 1 < length body.now }
+    ensures { result ≡ pair body.now at }
 {
-    wide(low) + 256 * wide(high)
+    u16::from_le_bytes([body[at], body[at + 1]])
 }
 
 // The same, as a size or a coordinate.
-fn size(low: u8, high: u8) -> usize
-    ensures { result ≡ low + 256 * high }
+fn size(body: &Body, at: usize) -> usize
+    requires { at + 1 < length body.now }
+    ensures { result ≡ pair body.now at }
 {
-    two(low, high) as usize
+    usize::from(pair(body, at))
 }
 
 // A put, from its body: without a shape where its byte names none.
 fn put_record(body: Body) -> Record
     ensures { result ≡ put_record (shape_of (get_or body 7 0)) body }
 {
-    let x = size(body[0], body[1]);
-    let y = size(body[2], body[3]);
-    let value = two(body[4], body[5]);
-    let ShapeRead::Known(shape) = kernels::shape::shape_of(body[7]) else {
-        return Record::NoShape(Shapeless {
-            x: x,
-            y: y,
-            value: value,
-        });
+    let x = size(&body, 0);
+    let y = size(&body, 2);
+    let value = pair(&body, 4);
+    let Ok(shape) = Shape::try_from(body[7]) else {
+        return Record::NoShape(Shapeless { x, y, value });
     };
     Record::Put(PlacedPixel {
-        x: x,
-        y: y,
+        x,
+        y,
         pixel: Pixel {
-            value: value,
+            value,
             opacity: body[6],
-            shape: shape,
+            shape,
             radius: body[8],
         },
     })
 }
 
 // The record of a known kind, from its body. The bytes past a body that is shorter are not looked at.
+#[tactic(auto, unfolding(records_model::specs::Record::record_of))]
 pub(crate) fn read(kind: u8, body: Body) -> Record
     ensures { result ≡ record_of kind body }
 {
-    if kind == 1 {
-        return Record::Open(Size {
-            width: size(body[0], body[1]),
-            height: size(body[2], body[3]),
-            reach: body[4] as usize,
-        });
+    match kind {
+        OPEN => Record::Open(Size {
+            width: size(&body, 0),
+            height: size(&body, 2),
+            reach: usize::from(body[4]),
+        }),
+        PUT => put_record(body),
+        UNDO => Record::Undo,
+        _ => Record::Show,
     }
-    if kind == 2 {
-        return put_record(body);
-    }
-    if kind == 3 {
-        return Record::Undo;
-    }
-    Record::Show
 }

@@ -1,201 +1,173 @@
-// The text that a run prints, written into a lent slice from a place on. Each function answers the next place.
-ghost use Rattle.std.specs.Prelude.{◌≡◌, [], ◌∷◌, ◌++◌, ◌+◌, ◌*◌, ◌^◌, ◌<◌, ◌≤◌, length};
+// The text that a run prints, written piece after piece into a lent slice. The pieces do not go through write!, since no clause of
+// it says that it succeeds where there is room.
+ghost use Rattle.std.specs.Prelude.{◌≡◌, [], ◌∷◌, ◌++◌, ◌+◌, ◌*◌, ◌<◌, ◌≤◌, length};
 ghost use Rattle.records_model.specs.Fixed.{text_room};
-ghost use Rattle.records_model.specs.Text.{decimal, space, numbered, done_line, head_line, cell_text, row_text, rows_text, show_text};
+ghost use Rattle.records_model.specs.Text.{decimal, space, numbered, done_line, head_line, show_text, row_text};
 ghost use Rattle.records_model.specs.Run.{stop_text};
 ghost use Rattle.records_model.specs.Machine.{reply_text};
-ghost use Rattle.records.specs.Written.{Wrote, WroteIn, gap_text};
-ghost use Rattle.records.specs.Room.{number_room, line_room, cell_room, row_room, rows_room, CellsRoom, ShowRoom, ReplyRoom};
+ghost use Rattle.records.specs.Written.{HasRoom, Writes, WritesIn, cell_of};
+ghost use Rattle.records.specs.Room.{number_room, line_room, cell_room, row_room, rows_room, Printable};
 
-use crate::record::stop_number;
+use plate::Size;
+use records_model::buffers::Buffers;
 use records_model::effect::Reply;
-use records_model::fixed::{Mattes, Values};
 use records_model::record::Stop;
 
-// One byte.
-fn byte(out: &mut [u8], at: usize, b: u8) -> usize
-    requires { at < length out.old }
-    ensures { Wrote out.old at (b ∷ []) out.new result }
-{
-    out[at] = b;
-    at + 1
+// Text on its way into a lent slice, with how many bytes of it stand at the slice's start.
+#[derive(Drop)]
+pub(crate) struct Writer<'a> {
+    out: &'a mut [u8],
+    pub(crate) at: usize,
 }
 
-// A number in decimal: first what stands before its last digit, if anything does.
-fn number(out: &mut [u8], at: usize, n: u64) -> usize
-    requires { at + length (decimal n) ≤ length out.old }
-    ensures { Wrote out.old at (decimal n) out.new result }
-{
-    if n < 10 {
-        return byte(out, at, b'0' + n as u8);
+impl<'a> Writer<'a> {
+    pub(crate) fn new(out: &'a mut [u8]) -> Self
+        ensures same_slice { result.out.ghost_name ≡ out.entry.ghost_name }
+        ensures slice { result.out.now ≡ out.old }
+        ensures none { result.at ≡ 0 }
+    {
+        Writer { out, at: 0 }
     }
-    let next = number(out, at, n / 10);
-    byte(out, next, b'0' + (n % 10) as u8)
-}
 
-// A word.
-fn word(out: &mut [u8], at: usize, w: &[u8]) -> usize
-    requires { at + length w.now ≤ length out.old }
-    ensures { Wrote out.old at w.now out.new result }
-{
-    let mut next = at;
-    for i in 0..w.len() {
-        let b = w[i];
-        next = byte(out, next, b);
+    fn byte(&mut self, byte: u8)
+        requires { HasRoom 1 self.old }
+        ensures { Writes self.old (byte ∷ []) self.new }
+    {
+        self.out[self.at] = byte;
+        self.at += 1;
     }
-    next
-}
 
-// A space and a number.
-fn spaced(out: &mut [u8], at: usize, n: u64) -> usize
-    requires { at + number_room ≤ length out.old }
-    ensures { WroteIn number_room out.old at (space ∷ decimal n) out.new result }
-{
-    let next = byte(out, at, b' ');
-    number(out, next, n)
-}
-
-// A word, and a number after it.
-fn labelled(out: &mut [u8], at: usize, w: &[u8], n: u64) -> usize
-    requires { at + length w.now + number_room ≤ length out.old }
-    ensures { WroteIn (length w.now + number_room) out.old at
-        (w.now ++ (space ∷ decimal n)) out.new result }
-{
-    let next = word(out, at, w);
-    spaced(out, next, n)
-}
-
-// The line of a stop or a refusal: a word, a number, and the record that it came at.
-fn line(out: &mut [u8], at: usize, w: &[u8], n: u64, k: u64) -> usize
-    requires { at + length w.now + line_room ≤ length out.old }
-    ensures { Wrote out.old at (numbered w.now n k) out.new result }
-{
-    let one = labelled(out, at, w, n);
-    let two = labelled(out, one, b" at", k);
-    byte(out, two, b'\n')
-}
-
-// The line of a stop.
-pub(crate) fn stopped(out: &mut [u8], at: usize, why: Stop, k: u64) -> usize
-    requires { at + text_room ≤ length out.old }
-    ensures { Wrote out.old at (stop_text k why) out.new result }
-{
-    line(out, at, b"stopped", stop_number(why), k)
-}
-
-// The last line of a whole input.
-pub(crate) fn done(out: &mut [u8], k: u64) -> usize
-    requires { line_room ≤ length out.old }
-    ensures { Wrote out.old 0 (done_line k) out.new result }
-{
-    let next = labelled(out, 0, b"done", k);
-    byte(out, next, b'\n')
-}
-
-// The first line of a show.
-fn head(out: &mut [u8], at: usize, w: u64, h: u64) -> usize
-    requires { at + line_room ≤ length out.old }
-    ensures { WroteIn line_room out.old at (head_line w h) out.new result }
-{
-    let one = labelled(out, at, b"plate", w);
-    let two = spaced(out, one, h);
-    byte(out, two, b'\n')
-}
-
-// A byte and a number of two bytes, as wide as `number` takes them.
-fn wide8(b: u8) -> u64
-    ensures { (result ≡ b) × (result < 2 ^ 8) }
-{
-    b as u64
-}
-
-fn wide16(v: u16) -> u64
-    ensures { (result ≡ v) × (result < 2 ^ 16) }
-{
-    v as u64
-}
-
-// The cell at a place.
-fn cell(out: &mut [u8], at: usize, values: &[u16], mattes: &[u8], i: usize) -> usize
-    requires { CellsRoom (at + cell_room) i 1 out.old values.now mattes.now }
-    ensures { WroteIn cell_room out.old at (cell_text values.now mattes.now i)
-        out.new result }
-{
-    let value = wide16(values[i]);
-    let matte = wide8(mattes[i]);
-    let one = number(out, at, value);
-    let two = byte(out, one, b'/');
-    number(out, two, matte)
-}
-
-// A space before each cell of a row but the first.
-fn gap(out: &mut [u8], at: usize, j: usize) -> usize
-    requires { at < length out.old }
-    ensures { WroteIn 1 out.old at (gap_text j) out.new result }
-{
-    if j == 0 {
-        return at;
+    fn word(&mut self, word: &[u8])
+        requires { HasRoom (length word.now) self.old }
+        ensures { Writes self.old word.now self.new }
+    {
+        let end = self.at + word.len();
+        self.out[self.at..end].copy_from_slice(word);
+        self.at = end;
     }
-    byte(out, at, b' ')
-}
 
-// A row of w cells from a place on.
-fn row(out: &mut [u8], at: usize, values: &[u16], mattes: &[u8], from: usize, w: usize) -> usize
-    requires { CellsRoom (at + row_room w) from w out.old values.now mattes.now }
-    ensures { WroteIn (row_room w) out.old at (row_text values.now mattes.now from w)
-        out.new result }
-{
-    let mut next = at;
-    for j in 0..w {
-        let start = gap(out, next, j);
-        next = cell(out, start, values, mattes, from + j);
+    // A number in decimal, its digits right at their places. In a picture most numbers have one digit, which needs no count.
+    fn number(&mut self, n: u64)
+        requires { HasRoom (length (decimal n)) self.old }
+        ensures { Writes self.old (decimal n) self.new }
+    {
+        if n < 10 {
+            return self.byte(b'0' + n as u8);
+        }
+        let end = self.at + n.ilog10() as usize + 1;
+        itoa::write_digits(n, self.out, end);
+        self.at = end;
     }
-    next
-}
 
-// The rows of a show, a line for each.
-fn rows(out: &mut [u8], at: usize, values: &[u16], mattes: &[u8], w: usize, h: usize) -> usize
-    requires { CellsRoom (at + rows_room w h) 0 (h * w) out.old values.now mattes.now }
-    ensures { Wrote out.old at (rows_text values.now mattes.now w h)
-        out.new result }
-{
-    let mut next = at;
-    let mut from = 0;
-    for y in 0..h {
-        let end = row(out, next, values, mattes, from, w);
-        next = byte(out, end, b'\n');
-        from += w;
+    // A space and a number.
+    fn spaced(&mut self, n: u64)
+        requires { HasRoom number_room self.old }
+        ensures { WritesIn number_room self.old (space ∷ decimal n) self.new }
+    {
+        self.byte(b' ');
+        self.number(n);
     }
-    next
-}
 
-// A show.
-fn show(out: &mut [u8], at: usize, values: &[u16], mattes: &[u8], w: usize, h: usize) -> usize
-    requires { ShowRoom at w h out.old values.now mattes.now }
-    ensures { Wrote out.old at (show_text w h values.now mattes.now)
-        out.new result }
-{
-    let next = head(out, at, w as u64, h as u64);
-    rows(out, next, values, mattes, w, h)
-}
+    // A word, and a number after it.
+    fn labelled(&mut self, word: &[u8], n: u64)
+        requires { HasRoom (length word.now + number_room) self.old }
+        ensures { WritesIn (length word.now + number_room) self.old (word.now ++ (space ∷ decimal n)) self.new }
+    {
+        self.word(word);
+        self.spaced(n);
+    }
 
-// A reply to record K.
-pub(crate) fn reply(
-    out: &mut [u8],
-    at: usize,
-    r: Reply,
-    k: u64,
-    values: &Values,
-    mattes: &Mattes,
-) -> usize
-    requires { ReplyRoom at r out.old }
-    ensures { Wrote out.old at (reply_text k r values.now mattes.now)
-        out.new result }
-{
-    match r {
-        Reply::Nothing => at,
-        Reply::StoppedBy(why) => stopped(out, at, why, k),
-        Reply::RefusedBy(number) => line(out, at, b"refused", number, k),
-        Reply::Pictures(size) => show(out, at, values, mattes, size.width, size.height),
+    // The line of a stop or a refusal: a word, a number, and the record that it came at.
+    fn line(&mut self, word: &[u8], n: u64, k: u64)
+        requires { HasRoom (length word.now + line_room) self.old }
+        ensures { Writes self.old (numbered word.now n k) self.new }
+    {
+        self.labelled(word, n);
+        self.labelled(b" at", k);
+        self.byte(b'\n');
+    }
+
+    // The line of a stop.
+    pub(crate) fn stopped(&mut self, why: Stop, k: u64)
+        requires { HasRoom text_room self.old }
+        ensures { Writes self.old (stop_text k why) self.new }
+    {
+        self.line(b"stopped", why as u64, k);
+    }
+
+    // The last line of a whole input.
+    pub(crate) fn done(&mut self, k: u64)
+        requires { HasRoom line_room self.old }
+        ensures { Writes self.old (done_line k) self.new }
+    {
+        self.labelled(b"done", k);
+        self.byte(b'\n');
+    }
+
+    // The first line of a show.
+    fn head(&mut self, size: Size)
+        requires { HasRoom line_room self.old }
+        ensures { WritesIn line_room self.old (head_line size.width size.height) self.new }
+    {
+        self.labelled(b"plate", size.width as u64);
+        self.spaced(size.height as u64);
+        self.byte(b'\n');
+    }
+
+    fn cell(&mut self, value: u16, matte: u8)
+        requires { HasRoom cell_room self.old }
+        ensures { WritesIn cell_room self.old (cell_of value matte) self.new }
+    {
+        self.number(u64::from(value));
+        self.byte(b'/');
+        self.number(u64::from(matte));
+    }
+
+    // A row of cells, a space before each but the first.
+    fn row(&mut self, values: &[u16], mattes: &[u8])
+        requires room { HasRoom (row_room (length values.now)) self.old }
+        requires alike { length mattes.now ≡ length values.now }
+        ensures { WritesIn (row_room (length values.now)) self.old
+            (row_text values.now mattes.now 0 (length values.now)) self.new }
+    {
+        for (place, (value, matte)) in values.iter().zip(mattes).enumerate() {
+            if place > 0 {
+                self.byte(b' ');
+            }
+            self.cell(*value, *matte);
+        }
+    }
+
+    // A show: its first line, and a line for each row.
+    fn show(&mut self, size: Size, values: &[u16], mattes: &[u8])
+        requires some { 0 < size.width }
+        requires room { HasRoom (line_room + rows_room size.width size.height) self.old }
+        requires values_are { size.width * size.height ≤ length values.now }
+        requires mattes_are { size.width * size.height ≤ length mattes.now }
+        ensures { Writes self.old (show_text size.width size.height values.now mattes.now) self.new }
+    {
+        self.head(size);
+        let places = size.width * size.height;
+        let values = values[..places].chunks_exact(size.width);
+        let mattes = mattes[..places].chunks_exact(size.width);
+        for (values, mattes) in values.zip(mattes) {
+            self.row(values, mattes);
+            self.byte(b'\n');
+        }
+    }
+
+    // A reply to record K.
+    #[tactic(auto, using(crate::proofs::Laws::Writing::Slices::writes_nothing), unfolding(records_model::specs::Machine::reply_text))]
+    pub(crate) fn reply(&mut self, reply: Reply, k: u64, buffers: &Buffers)
+        requires room { HasRoom text_room self.old }
+        requires printable { Printable reply }
+        ensures { Writes self.old (reply_text k reply buffers.now.values buffers.now.mattes) self.new }
+    {
+        match reply {
+            Reply::Nothing => {}
+            Reply::StoppedBy(why) => self.stopped(why, k),
+            Reply::RefusedBy(number) => self.line(b"refused", number, k),
+            Reply::Pictures(size) => self.show(size, &buffers.values, &buffers.mattes),
+        }
     }
 }

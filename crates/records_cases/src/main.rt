@@ -3,205 +3,104 @@
 // case's run.
 #![tactic(auto)]
 
-ghost use Rattle.std.specs.Prelude.{◌≤◌, ◌<◌, length, IfOk};
+ghost use Rattle.std.specs.Prelude.{◌≤◌, length, IfOk};
 
-use records::{Log, Machine, Mattes, Pixels, Planes, Scratch, Text, Values};
-use records_model::fixed::{BUFFER, CELLS, LOG, PLANE_CELLS, SCRATCH_CELLS};
+use records::{Buffers, Machine, Text, machine};
+use records_model::fixed::BUFFER;
 use std::io;
 use std::io::Read;
 
 // The bytes of the cases, at most.
 const INPUT: usize = 65536;
 
-// A run on its way: the machine, and the first digit of a byte, 16 where none has been read.
+// The value of a hexadecimal digit.
+fn digit(b: u8) -> Option<u8> {
+    match b {
+        b'0'..=b'9' => Some(b - b'0'),
+        b'A'..=b'F' => Some(b - b'A' + 10),
+        _ => None,
+    }
+}
+
+// A case on its way: the machine with its buffers, what a call is lent for its text, and the first digit of a byte, where one has
+// been read.
 #[derive(Drop)]
 struct Run {
     machine: Machine,
-    half: u8,
+    buffers: Buffers,
+    text: Text,
+    half: Option<u8>,
 }
 
-// The value of a hexadecimal digit, and 16 where there is none.
-fn digit(b: u8) -> u8 {
-    if b < b'0' {
-        return 16;
+impl Run {
+    fn start() -> Self {
+        Run {
+            machine: machine::start(),
+            buffers: machine::zeroed(),
+            text: [0; BUFFER],
+            half: None,
+        }
     }
-    if b <= b'9' {
-        return b - b'0';
-    }
-    if b < b'A' {
-        return 16;
-    }
-    if b <= b'F' {
-        return b - b'A' + 10;
-    }
-    16
-}
 
-// The first bytes of the text are written.
-fn write(rt: &impl Print, text: &[u8], n: usize) -> io::Result<()>
-    requires { n ≤ length text.now }
-{
-    rt.write_all(&text[..n])
-}
-
-// A byte of a case's input, and the text that it brings.
-fn feed(
-    rt: &impl Print,
-    machine: Machine,
-    byte: u8,
-    planes: &mut Planes,
-    pixels: &mut Pixels,
-    log: &mut Log,
-    scratch: &mut Scratch,
-    values: &mut Values,
-    mattes: &mut Mattes,
-    text: &mut Text,
-) -> io::Result<Machine> {
-    let part = [byte];
-    let next = records::advance::advance(
-        machine, &part, planes, pixels, log, scratch, values, mattes, text,
-    );
-    let n = next.written;
-    write(rt, text, n)?;
-    Ok(next.machine)
-}
-
-// The machine between two characters, with the first digit of a byte.
-fn between(machine: Machine, half: u8) -> Run {
-    Run {
-        machine: machine,
-        half: half,
+    // A byte of a case's input, and the text that it brings.
+    fn feed(&mut self, rt: &impl Print, byte: u8) -> io::Result<()> {
+        let next = records::advance::advance(
+            self.machine,
+            &[byte],
+            &mut self.buffers,
+            &mut self.text,
+        );
+        self.machine = next.machine;
+        rt.write_all(&self.text[..next.written])
     }
-}
 
-// One character of a case.
-fn step(
-    rt: &impl Print,
-    run: Run,
-    b: u8,
-    planes: &mut Planes,
-    pixels: &mut Pixels,
-    log: &mut Log,
-    scratch: &mut Scratch,
-    values: &mut Values,
-    mattes: &mut Mattes,
-    text: &mut Text,
-) -> io::Result<Run> {
-    let machine = run.machine;
-    let d = digit(b);
-    if d == 16 {
-        return Ok(between(machine, 16));
+    // One character of a case.
+    fn step(&mut self, rt: &impl Print, character: u8) -> io::Result<()> {
+        match (self.half.take(), digit(character)) {
+            (Some(high), Some(low)) => self.feed(rt, (high << 4) | low)?,
+            (None, half) => self.half = half,
+            (Some(_), None) => {}
+        }
+        Ok(())
     }
-    if run.half == 16 {
-        return Ok(between(machine, d));
-    }
-    let next = feed(
-        rt,
-        machine,
-        (run.half << 4) | d,
-        planes,
-        pixels,
-        log,
-        scratch,
-        values,
-        mattes,
-        text,
-    )?;
-    Ok(between(next, 16))
-}
 
-// The characters of a case, on buffers of its own.
-fn characters(
-    rt: &impl Print,
-    case: &[u8],
-    planes: &mut Planes,
-    pixels: &mut Pixels,
-    log: &mut Log,
-    scratch: &mut Scratch,
-    values: &mut Values,
-    mattes: &mut Mattes,
-    text: &mut Text,
-) -> io::Result<Machine> {
-    let machine = records::machine::start();
-    let mut run = Run {
-        machine: machine,
-        half: 16,
-    };
-    for i in 0..case.len() {
-        run = step(
-            rt, run, case[i], planes, pixels, log, scratch, values, mattes, text,
-        )?;
+    // The end of a case's input.
+    fn end(&mut self, rt: &impl Print) -> io::Result<()> {
+        let n = machine::finish(self.machine, &mut self.text);
+        rt.write_all(&self.text[..n])
     }
-    Ok(run.machine)
-}
-
-// The end of a case's input.
-fn end(rt: &impl Print, machine: Machine, text: &mut Text) -> io::Result<()> {
-    let n = records::machine::finish(machine, text);
-    write(rt, text, n)
 }
 
 // A case from its first character to the end of its input.
 fn run_case(rt: &impl Print, case: &[u8]) -> io::Result<()> {
-    let mut planes = [0u64; PLANE_CELLS];
-    let mut pixels = [0u64; CELLS];
-    let mut log = [0u64; LOG];
-    let mut scratch = [0u64; SCRATCH_CELLS];
-    let mut values = [0u16; CELLS];
-    let mut mattes = [0u8; CELLS];
-    let mut text = [0u8; BUFFER];
-    let machine = characters(
-        rt,
-        case,
-        &mut planes,
-        &mut pixels,
-        &mut log,
-        &mut scratch,
-        &mut values,
-        &mut mattes,
-        &mut text,
-    )?;
-    end(rt, machine, &mut text)
-}
-
-// The place after the next occurrence of a byte, or the end.
-fn after(input: &[u8], at: usize, byte: u8) -> usize
-    requires { at < length input.now }
-    ensures { (at < result) × (result ≤ length input.now) }
-{
-    for i in at..input.len() {
-        if input[i] == byte {
-            return i + 1;
-        }
+    let mut run = Run::start();
+    for character in case {
+        run.step(rt, *character)?;
     }
-    input.len()
+    run.end(rt)
 }
 
 // One case: its name, up to the end of the line, and its run.
-fn named(rt: &impl Print, case: &[u8]) -> io::Result<()>
-    requires { 0 < length case.now }
-{
-    let start = after(case, 0, b'\n');
+fn named(rt: &impl Print, case: &[u8]) -> io::Result<()> {
+    let end = match case.iter().position(|b| *b == b'\n') {
+        Some(at) => at + 1,
+        None => case.len(),
+    };
     rt.write_all(b"#")?;
-    rt.write_all(&case[..start])?;
-    run_case(rt, &case[start..])
+    rt.write_all(&case[..end])?;
+    run_case(rt, &case[end..])
 }
 
 // Each case goes from a # to the next one.
 fn cases(rt: &impl Print, input: &[u8]) -> io::Result<()> {
-    if input.len() == 0 {
-        return Ok(());
-    }
-    let mut at = after(input, 0, b'#');
-    while at < input.len() {
-        let next = after(input, at, b'#');
-        named(rt, &input[at..next])?;
-        at = next;
+    for case in input.split_inclusive(|b| *b == b'#').skip(1) {
+        named(rt, case)?;
     }
     Ok(())
 }
 
-// Reads until the buffer is full or the input ends, and returns how many bytes it put at the start of the buffer.
+// Reads until the buffer is full or the input ends, where read_exact would fail, and returns how many bytes it put at the start of
+// the buffer.
 fn read_full(stdin: &mut impl Read, input: &mut [u8]) -> io::Result<usize>
     ensures { IfOk result (λ n. n ≤ length input.new) }
 {

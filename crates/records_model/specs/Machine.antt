@@ -1,6 +1,6 @@
 -- The machine: what a byte makes of it and of its buffers, and the text that comes out. Nothing here is a plate's own rule: a
 -- record is a call of the plate, on the front of the buffers.
-use Rattle.std.specs.Prelude.{◌≡◌, Bool, true, false, List, [], ◌∷◌, ◌++◌, ℕ, zero, suc, ◌+◌, ◌*◌, ◌-◌, ◌^◌, ◌≤◌, ◌<◌, ltb, eqb, length, take, drop, set}
+use Rattle.std.specs.Prelude.{◌≡◌, Bool, true, false, List, [], ◌∷◌, ◌++◌, ℕ, zero, suc, ◌+◌, ◌*◌, ◌-◌, ◌^◌, ◌≤◌, ◌<◌, ltb, eqb, length, take, drop, set, Option, Some, None}
 use Rattle.kernels_model.specs.Choice.{pick}
 use Rattle.plate_model.specs.Fixed.{planes_in_all, scratch_planes}
 use Rattle.plate_model.specs.declared.size.Size.{Size}
@@ -8,15 +8,16 @@ use Rattle.plate_model.specs.Layout.{padded, places}
 use Rattle.plate_model.specs.declared.state.State.{State}
 use Rattle.plate_model.specs.Refusal.{Returned}
 use Rattle.plate_model.specs.declared.lent.Ask.{Ask}
-use Rattle.plate_model.specs.Lent.{Lent, lent, Views, views, Borrowed}
+use Rattle.plate_model.specs.Lent.{Lent, lent, Views, views}
 use Rattle.kernels_model.specs.Listed.{zeros}
 use Rattle.plate_model.specs.Calls.{Left, open_call, put_call, undo_call, Shown, show_call}
 use Rattle.plate_model.specs.Lists.{Byte, codes}
 use Rattle.records_model.specs.Fixed.{cells_top, planes_room, scratch_room, log_room, longest_body, full_from}
 use Rattle.records_model.specs.Text.{refused_word, numbered, done_line, show_text, with_text}
 use Rattle.records_model.specs.Record.{Record, Open, Put, NoShape, Undo, Show, record_of, put_ask, shapeless_ask}
-use Rattle.records_model.specs.Record.{Stop, Sizes, Kind, Body, Order, Cells, BodyLength, Bytes, NoKind, body_length}
+use Rattle.records_model.specs.Record.{Stop, Sizes, Kind, Body, Order, Cells, body_length}
 use Rattle.records_model.specs.Run.{stop_text, paper_text}
+pub use Rattle.records_model.specs.declared.buffers.Buffers.{Buffers}
 pub use Rattle.records_model.specs.declared.request.PutRequest.{PutRequest}
 pub use Rattle.records_model.specs.declared.request.Request.{Request}
 pub use Rattle.records_model.specs.declared.request.Request.TheVariants.{ToOpen, ToPut, ToUndo}
@@ -32,28 +33,9 @@ pub use Rattle.records_model.specs.declared.machine.Taken.{Taken}
 pub use Rattle.records_model.specs.declared.advance.Advanced.{Advanced}
 
 -- BUFFERS
-pub record Buffers : Type 0 where
-  pub planes : List ℕ
-  pub pixels : List ℕ
-  pub log : List ℕ
-  pub scratch : List ℕ
-  pub values : List ℕ
-  pub mattes : List ℕ
-
 abbrev pub buffers : List ℕ → List ℕ → List ℕ → List ℕ → List ℕ → List ℕ → Buffers
 buffers planes pixels log scratch values mattes =
     record { planes = planes; pixels = pixels; log = log; scratch = scratch; values = values; mattes = mattes }
-
--- those that a call is lent, as they are when it starts and when it ends
-abbrev pub at_entry : Borrowed → Borrowed → Borrowed → Borrowed → Borrowed → Borrowed → Buffers
-at_entry planes pixels log scratch values mattes =
-    buffers planes.entry.now pixels.entry.now log.entry.now
-    scratch.entry.now values.entry.now mattes.entry.now
-
-abbrev pub at_exit : Borrowed → Borrowed → Borrowed → Borrowed → Borrowed → Borrowed → Buffers
-at_exit planes pixels log scratch values mattes =
-    buffers planes.exit.now pixels.exit.now log.exit.now
-    scratch.exit.now values.exit.now mattes.exit.now
 
 -- a plate of more cells in a plane than there is room for is lent nothing, and the plate then refuses it
 abbrev pub if_room : Size → ℕ → ℕ
@@ -217,9 +199,9 @@ settled_of m =
     taken m (pick (ltb m.held m.whole) (ToStand m.stage) (task_of m.stage (record_of m.kind m.body)))
 
 -- a byte of kind. 13: "unknown kind"
-unfoldable pub begun_by : BodyLength → Machine → Taken
-begun_by NoKind m = taken m (ToStop Kind)
-begun_by (Bytes n) m = settled_of (machine m.stage m.kind 0 n m.body m.count)
+unfoldable pub begun_by : Option ℕ → Machine → Taken
+begun_by None m = taken m (ToStop Kind)
+begun_by (Some n) m = settled_of (machine m.stage m.kind 0 n m.body m.count)
 
 -- what no run comes to ends without a text: more than 2^64 - 1 records, or a body longer than the longest
 unfoldable pub begun_of : Machine → ℕ → Taken

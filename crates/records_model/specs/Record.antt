@@ -1,9 +1,8 @@
 -- Records: "One byte of kind, then its body, little-endian".
-use Rattle.std.specs.Prelude.{List, [], ◌∷◌, ℕ, zero, suc, ◌+◌, ◌*◌, eqb, ltb, get_or, length, take, drop}
+use Rattle.std.specs.Prelude.{List, [], ◌∷◌, ℕ, zero, suc, ◌+◌, ◌*◌, eqb, ltb, get_or, length, take, drop, Option, Some, None}
 use Rattle.kernels_model.specs.Choice.{pick}
-use Rattle.kernels_model.specs.declared.shape.ShapeRead.{ShapeRead}
-use Rattle.kernels_model.specs.declared.shape.ShapeRead.TheVariants.{Known, Unknown}
 use Rattle.kernels_model.specs.Shape.{shape_of}
+use Rattle.kernels_model.specs.declared.shape.Shape.{Shape}
 use Rattle.plate_model.specs.declared.lent.Ask.{Ask}
 use Rattle.plate_model.specs.Layout.{size_from}
 use Rattle.records_model.specs.Fixed.{open_body, put_body}
@@ -11,8 +10,6 @@ pub use Rattle.records_model.specs.declared.record.Record.{Record}
 pub use Rattle.records_model.specs.declared.record.Record.TheVariants.{Open, Put, NoShape, Undo, Show}
 pub use Rattle.records_model.specs.declared.record.PlacedPixel.{PlacedPixel}
 pub use Rattle.records_model.specs.declared.record.Shapeless.{Shapeless}
-pub use Rattle.records_model.specs.declared.record.BodyLength.{BodyLength}
-pub use Rattle.records_model.specs.declared.record.BodyLength.TheVariants.{Bytes, NoKind}
 pub use Rattle.records_model.specs.declared.record.Stop.{Stop}
 pub use Rattle.records_model.specs.declared.record.Stop.TheVariants.{Sizes, Kind, Body, Order, Cells}
 
@@ -25,26 +22,26 @@ stop_number Order = 15
 stop_number Cells = 16
 
 -- the bytes of a kind's body: "1 open .., 2 put .., 3 undo, 4 show (no bodies)"
-abbrev pub body_lengths : List BodyLength
-body_lengths = NoKind ∷ Bytes open_body ∷ Bytes put_body ∷ Bytes 0 ∷ Bytes 0 ∷ []
+abbrev pub body_lengths : List (Option ℕ)
+body_lengths = None ∷ Some open_body ∷ Some put_body ∷ Some 0 ∷ Some 0 ∷ []
 
-abbrev pub body_length : ℕ → BodyLength
-body_length kind = get_or body_lengths kind NoKind
+abbrev pub body_length : ℕ → Option ℕ
+body_length kind = get_or body_lengths kind None
 
 -- two bytes, little-endian
 abbrev pub pair : List ℕ → ℕ → ℕ
 pair body i = get_or body i 0 + 256 * get_or body (i + 1) 0
 
 -- a put's record: without a shape where its byte names none
-abbrev pub put_record : ShapeRead → List ℕ → Record
-put_record (Known s) body =
+abbrev pub put_record : Option Shape → List ℕ → Record
+put_record (Some s) body =
     Put
     (record {
       x = pair body 0;
       y = pair body 2;
       pixel = record { value = pair body 4; opacity = get_or body 6 0; shape = s; radius = get_or body 8 0 };
     })
-put_record Unknown body = NoShape (record { x = pair body 0; y = pair body 2; value = pair body 4 })
+put_record None body = NoShape (record { x = pair body 0; y = pair body 2; value = pair body 4 })
 
 -- the record of a known kind with its whole body
 unfoldable pub record_of : ℕ → List ℕ → Record
@@ -57,11 +54,11 @@ record_of kind body =
 abbrev pub put_ask : PlacedPixel → Ask
 put_ask p =
     let q = p.pixel in
-    record { x = p.x; y = p.y; value = q.value; opacity = q.opacity; shape = Known q.shape; radius = q.radius }
+    record { x = p.x; y = p.y; value = q.value; opacity = q.opacity; shape = Some q.shape; radius = q.radius }
 
 -- without a shape it asks for none, so that 4 and 5 come before 6
 abbrev pub shapeless_ask : Shapeless → Ask
-shapeless_ask p = record { x = p.x; y = p.y; value = p.value; opacity = 0; shape = Unknown; radius = 0 }
+shapeless_ask p = record { x = p.x; y = p.y; value = p.value; opacity = 0; shape = None; radius = 0 }
 
 -- an input as records one after the other, up to its end or to what stops the run
 pub data Items : Type 0 where
@@ -70,9 +67,9 @@ pub data Items : Type 0 where
   next : Record → Items → Items
 
 -- 13: "unknown kind", 14: "body cut short", else what comes of a body of that length
-abbrev pub with_body : BodyLength → List ℕ → (ℕ → Items) → Items
-with_body NoKind rest items = broken Kind
-with_body (Bytes m) rest items = pick (ltb (length rest) m) (broken Body) (items m)
+abbrev pub with_body : Option ℕ → List ℕ → (ℕ → Items) → Items
+with_body None rest items = broken Kind
+with_body (Some m) rest items = pick (ltb (length rest) m) (broken Body) (items m)
 
 -- the next record of an input, and what is made of the rest
 abbrev pub item_then : List ℕ → (List ℕ → Items) → Items

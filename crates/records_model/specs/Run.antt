@@ -1,10 +1,9 @@
 -- A run of the record program: the text of the paper's rules applied to the notebook's answers.
-use Rattle.std.specs.Prelude.{List, [], ◌++◌, ℕ, zero, suc, ◌+◌, ltb}
+use Rattle.std.specs.Prelude.{List, [], ◌++◌, ℕ, zero, suc, ◌+◌, ltb, Ok, Err}
 use Rattle.kernels_model.specs.Choice.{pick}
 use Rattle.plate_model.specs.Layout.{padded}
 use Rattle.plate_model.specs.declared.size.Size.{Size}
-use Rattle.plate_model.specs.declared.state.Outcome.{Outcome}
-use Rattle.plate_model.specs.declared.state.Outcome.TheVariants.{Accepted, Refused}
+use Rattle.plate_model.specs.Refusal.{Outcome}
 use Rattle.plate_model.specs.Refusal.{sizes_check}
 use Rattle.plate_model.specs.Notebook.{Book, open_book, Pictures, none, both, Report, BookLeft, book_put, book_undo, book_show_by}
 use Rattle.records_model.specs.Fixed.{cells_top, log_room}
@@ -27,11 +26,11 @@ abbrev pub cells_check : Size → Act
 cells_check z = pick (ltb cells_top (padded z)) (stop Cells) (go [] (open_book z log_room))
 
 abbrev pub opens_by : Outcome → Size → Act
-opens_by (Refused f) z = stop Sizes
-opens_by Accepted z = cells_check z
+opens_by (Err f) z = stop Sizes
+opens_by (Ok tt) z = cells_check z
 
 unfoldable pub opens : Size → Act
-opens z = opens_by (sizes_check z Accepted) z
+opens z = opens_by (sizes_check z (Ok tt)) z
 
 -- "others print `refused N at K` and go on"; "An accepted open, put or undo prints nothing."
 unfoldable pub answer_text : ℕ → ℕ → List ℕ
@@ -60,7 +59,7 @@ act k (open_with b) (Open z) = stop Order
 act k (open_with b) (Put p) = noted k b (book_put b (put_ask p))
 act k (open_with b) (NoShape p) = noted k b (book_put b (shapeless_ask p))
 act k (open_with b) Undo = noted k b (book_undo b)
-act k (open_with b) Show = noted k b (book_show_by Accepted b)
+act k (open_with b) Show = noted k b (book_show_by (Ok tt) b)
 
 -- "Numbers 1 and 13 to 16 print `stopped N at K` and end"; "K counts records from 1."
 abbrev pub stop_text : ℕ → Stop → List ℕ

@@ -1,12 +1,12 @@
 -- WHEN A RECORD STOPS A RUN: the rows of the table that do, 13 to 16 and 1, in the paper's words.
-use Rattle.std.specs.Prelude.{◌≡◌, ◌≢◌, ◌⊎◌, List, [], ◌∷◌, ◌++◌, ℕ, suc, ◌+◌, ◌<◌, get_or, length, take, drop}
+use Rattle.std.specs.Prelude.{◌≡◌, ◌≢◌, ◌⊎◌, List, [], ◌∷◌, ◌++◌, ℕ, suc, ◌+◌, ◌<◌, get_or, length, take, drop, Some}
 use Rattle.kernels_model.specs.Rows.{TableRow, row, FirstOf}
 use Rattle.plate_model.specs.declared.size.Size.{Size}
 use Rattle.plate_model.specs.Layout.{size_from, padded}
 use Rattle.plate_model.specs.Table.{Outside, SizesOutside}
 use Rattle.plate_model.specs.Notebook.{Book}
 use Rattle.records_model.specs.Fixed.{cells_top, open_body, put_body}
-use Rattle.records_model.specs.Record.{Stop, Sizes, Kind, Body, Order, Cells, Bytes, body_length, pair, record_of, items_by}
+use Rattle.records_model.specs.Record.{Stop, Sizes, Kind, Body, Order, Cells, body_length, pair, record_of, items_by}
 use Rattle.records_model.specs.Run.{CurrentBook, not_open, open_with, go, act, stop_text, text_from}
 
 -- 13: "unknown kind": "1 open .., 2 put .., 3 undo, 4 show"
@@ -42,7 +42,7 @@ pub record GoesOnAfter (k n : ℕ) (d : CurrentBook) (kind : ℕ) (rest : List �
   pub body : ℕ
   pub text : List ℕ
   pub book : Book
-  pub body_is : body_length kind ≡ Bytes body
+  pub body_is : body_length kind ≡ Some body
   pub done : act (k + 1) d (record_of kind (take body rest)) ≡ go text book
   pub goes_on : text_from k d (items_by (suc n) (kind ∷ rest))
       ≡ text ++ text_from (k + 1) (open_with book) (items_by n (drop body rest))

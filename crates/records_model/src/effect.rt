@@ -4,7 +4,7 @@ use plate_model::size::Size;
 use plate_model::state::State;
 
 // Where a run stands: no plate yet, a plate, or the end after a stop.
-#[derive(Clone, Copy)]
+#[derive(Clone, Copy, Debug, PartialEq, Eq)]
 pub enum Stage {
     Closed,
     Opened(State),
@@ -12,8 +12,8 @@ pub enum Stage {
 }
 
 // What a record has to print: nothing, the line of a stop, the line of a refusal by its number, or the pictures of a plate of
-// these sizes.
-#[derive(Clone, Copy)]
+// these sizes. A refusal is a number here since `going_on` and `reply_text` define the line by the number that the plate returns.
+#[derive(Clone, Copy, Debug, PartialEq, Eq)]
 pub enum Reply {
     Nothing,
     StoppedBy(Stop),
@@ -21,7 +21,7 @@ pub enum Reply {
     Pictures(Size),
 }
 
-#[derive(Clone, Copy)]
+#[derive(Clone, Copy, Debug, PartialEq, Eq)]
 pub struct Effect {
     pub stage: Stage,
     pub reply: Reply,

@@ -10,6 +10,15 @@ pub const SCRATCH_CELLS: usize = SCRATCH_PLANES * CELLS;
 
 pub const LOG: usize = 64;
 
+// The bytes of kind. They are numbers, as `body_length`, `record_of` and `StopsByRows` take them.
+pub const OPEN: u8 = 1;
+
+pub const PUT: u8 = 2;
+
+pub const UNDO: u8 = 3;
+
+pub const SHOW: u8 = 4;
+
 // The bytes of a body.
 pub const OPEN_BODY: usize = 5;
 

@@ -2,6 +2,7 @@
 #![tactic(auto)]
 
 pub mod advance;
+pub mod buffers;
 pub mod effect;
 pub mod fixed;
 pub mod machine;

@@ -6,14 +6,14 @@ use plate_model::size::Size;
 use plate_model::state::State;
 
 // A put: the plate's state, and what is asked of it.
-#[derive(Clone, Copy)]
+#[derive(Clone, Copy, Debug, PartialEq, Eq)]
 pub struct PutRequest {
     pub state: State,
     pub ask: Ask,
 }
 
 // A call that is lent planes, pixels and log.
-#[derive(Clone, Copy)]
+#[derive(Clone, Copy, Debug, PartialEq, Eq)]
 pub enum Request {
     ToOpen(Size),
     ToPut(PutRequest),
@@ -21,7 +21,7 @@ pub enum Request {
 }
 
 // What there is to do once a byte is taken in: stand somewhere and print nothing, stop, call the plate, or show it.
-#[derive(Clone, Copy)]
+#[derive(Clone, Copy, Debug, PartialEq, Eq)]
 pub enum Task {
     ToStand(Stage),
     ToStop(Stop),

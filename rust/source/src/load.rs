@@ -1,6 +1,6 @@
 //! A program from the texts of its crates.
 
-use crate::item::{Entry, Item, entries};
+use crate::item::{Block, Entry, Item, entries};
 use crate::program::{Module, Named, Placed, Program, Root, STANDARD};
 use crate::sources::Sources;
 use crate::token::tokens;
@@ -10,13 +10,15 @@ impl Program {
     /// A crate and all that it needs, or what cannot be read.
     pub fn read(sources: &Sources, name: &str) -> Result<Program, String> {
         let mut loader = Loader { sources, program: Program::default(), waiting: Vec::new() };
-        let mut wanted = vec![name.to_string(), STANDARD.to_string()];
+        let mut wanted = vec![name.to_string()];
+        wanted.extend(sources.needs(STANDARD).map(|_| STANDARD.to_string()));
         while let Some(name) = wanted.pop() {
             if !loader.program.roots.contains_key(&name) {
                 wanted.extend(loader.read_crate(&name)?);
             }
         }
-        loader.place_methods()?;
+        loader.place_blocks()?;
+        loader.program.list()?;
         Ok(loader.program)
     }
 }
@@ -24,14 +26,8 @@ impl Program {
 struct Loader<'a> {
     sources: &'a Sources,
     program: Program,
-    /// Functions of types, which are found once all modules are read.
-    waiting: Vec<Methods>,
-}
-
-struct Methods {
-    owner: Vec<String>,
-    functions: Vec<Item>,
-    place: Place,
+    /// Blocks, whose types are found once all modules are read.
+    waiting: Vec<(Block, Place)>,
 }
 
 /// A module, the file that it stands in, and the folder that has the files of those below it.
@@ -74,17 +70,13 @@ impl Loader<'_> {
     fn place_all(&mut self, place: &Place, entries: Vec<Entry>) -> Result<(), String> {
         for entry in entries {
             match entry {
-                Entry::Use(name, path) => {
-                    self.program.modules[place.module].uses.push((name, path));
-                }
+                Entry::Use(brought) => self.program.modules[place.module].uses.push(brought),
                 Entry::Item(item) => {
                     let name = item.name.clone();
-                    let item = self.add_item(place, item, None);
+                    let item = self.add_item(place, item, None, None);
                     self.give_name(place, name, Named::Item(item))?;
                 }
-                Entry::Methods(owner, functions) => {
-                    self.waiting.push(Methods { owner, functions, place: place.clone() });
-                }
+                Entry::Block(block) => self.waiting.push((block, place.clone())),
                 Entry::Module(name, inner) => self.place_module(place, name, inner)?,
             }
         }
@@ -110,9 +102,15 @@ impl Loader<'_> {
         self.give_name(above, name, Named::Module(module))
     }
 
-    fn add_item(&mut self, place: &Place, item: Item, owner: Option<usize>) -> usize {
-        let (module, file, methods) = (place.module, place.file.clone(), BTreeMap::new());
-        self.program.items.push(Placed { item, module, file, owner, methods });
+    fn add_item(
+        &mut self,
+        place: &Place,
+        item: Item,
+        owner: Option<Named>,
+        block: Option<String>,
+    ) -> usize {
+        let (module, file) = (place.module, place.file.clone());
+        self.program.items.push(Placed { item, module, file, owner, block });
         self.program.items.len() - 1
     }
 
@@ -124,16 +122,22 @@ impl Loader<'_> {
         }
     }
 
-    fn place_methods(&mut self) -> Result<(), String> {
-        for Methods { owner, functions, place } in std::mem::take(&mut self.waiting) {
+    fn place_blocks(&mut self) -> Result<(), String> {
+        for (Block { owner, name, items }, place) in std::mem::take(&mut self.waiting) {
             let found = self.program.find(place.module, None, &owner);
-            let Some(Named::Item(of)) = found else {
-                return Err(format!("{}: there is no type {}", place.file, owner.join("::")));
+            let of = match found {
+                Some(Named::Item(_)) => found,
+                Some(Named::Outside) if name.is_some() => found,
+                _ => {
+                    return Err(format!(
+                        "{}: there is no type {}",
+                        place.file,
+                        owner.join("::")
+                    ));
+                }
             };
-            for function in functions {
-                let name = function.name.clone();
-                let placed = self.add_item(&place, function, Some(of));
-                self.program.items[of].methods.insert(name, placed);
+            for item in items {
+                self.add_item(&place, item, of, name.clone());
             }
         }
         Ok(())

@@ -1,18 +1,20 @@
 //! What stands in words of types and in words of code: arrays, and names of other items.
 
 use crate::token::{Kind, Token};
+use std::collections::BTreeSet;
 
-const KEYWORDS: [&str; 31] = [
-    "as", "break", "const", "continue", "crate", "else", "enum", "extern", "false", "fn",
-    "for", "if", "impl", "in", "let", "loop", "match", "mod", "mut", "pub", "ref", "return",
-    "self", "Self", "struct", "super", "true", "type", "use", "where", "while",
+const KEYWORDS: [&str; 34] = [
+    "as", "break", "const", "continue", "crate", "dyn", "else", "enum", "extern", "false",
+    "fn", "for", "if", "impl", "in", "let", "loop", "match", "mod", "move", "mut", "pub",
+    "ref", "return", "self", "Self", "struct", "super", "trait", "true", "type", "use",
+    "where", "while",
 ];
 
 #[derive(Clone, Copy, Debug, PartialEq, Eq)]
 pub enum How {
     /// `path(..)`.
     Call,
-    /// `value.name(..)`.
+    /// `value.name(..)`, and what follows a type with arguments: `Type::<n>::name(..)`.
     Method,
     Plain,
 }
@@ -62,7 +64,8 @@ fn how_named(tokens: &[Token], start: usize, end: usize) -> Option<How> {
     // `path::<>(..)` is a call as well, and so is `(path)(..)`, which no text here needs: what
     // it calls is taken to be `)`, and that is never found.
     let called = is_at(tokens, end, "(") || is_at(tokens, end, "::");
-    let field = start > 0 && tokens[start - 1].is(".");
+    let before = |sign: &str| start > 0 && tokens[start - 1].is(sign);
+    let field = before(".") || before("::");
     match tokens[start].kind {
         Kind::Name if field => called.then_some(How::Method),
         Kind::Name if called => Some(How::Call),
@@ -70,6 +73,18 @@ fn how_named(tokens: &[Token], start: usize, end: usize) -> Option<How> {
         Kind::Name => Some(How::Plain),
         _ => (tokens[start].is(")") && called).then_some(How::Call),
     }
+}
+
+/// The names that a signature and a body give to values: to parameters, and by `let`. A closure
+/// among them is called by its name.
+pub fn locals<'a>(types: &'a [Token], code: &'a [Token]) -> BTreeSet<&'a str> {
+    let labels = types.windows(2).filter(|words| words[1].is(":"));
+    let bound = |next: &Token| !next.opens() && !next.is("::");
+    let lets = code
+        .windows(3)
+        .filter(|words| (words[0].is("let") || words[0].is("mut")) && bound(&words[2]));
+    let names = labels.map(|words| &words[0]).chain(lets.map(|words| &words[1]));
+    names.map(|name| name.text.as_str()).collect()
 }
 
 /// The arrays among words that are types: brackets with `;`, since those without are slices.
@@ -119,7 +134,7 @@ fn ends_value(token: &Token) -> bool {
     match token.kind {
         Kind::Name => value_name,
         Kind::Number => true,
-        _ => token.is(")") || token.is("]"),
+        _ => token.is(")") || token.is("]") || token.is("?"),
     }
 }
 

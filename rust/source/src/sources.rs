@@ -1,6 +1,5 @@
 //! The texts of crates, and which crates each of them names.
 
-use crate::program::STANDARD;
 use std::collections::BTreeMap;
 use std::path::{Path, PathBuf};
 use std::process::Command;
@@ -19,15 +18,10 @@ pub fn repository() -> PathBuf {
 }
 
 impl Sources {
-    /// The crates of the repository, and of `std` the functions of its module `num`, which is a
-    /// file of the toolchain's `core`. A name of another module of `std` is not found.
+    /// The crates of the repository.
     pub fn installed() -> io::Result<Sources> {
         let mut sources = Sources::default();
         sources.read(&repository().join("crates.txt"), &repository().join("crates"))?;
-        let numbers = fs::read_to_string(toolchain()?.join("rattle/core/src/num.rt"))?;
-        sources.name(STANDARD, "");
-        sources.add(&format!("{STANDARD}/src/lib.rt"), "pub mod num;");
-        sources.add(&format!("{STANDARD}/src/num.rt"), &functions_alone(&numbers));
         Ok(sources)
     }
 
@@ -97,18 +91,4 @@ pub fn toolchain() -> io::Result<PathBuf> {
     let page = Command::new("rt").arg("doc").output()?.stdout;
     let page = PathBuf::from(String::from_utf8_lossy(&page).trim());
     Ok(page.parent().ok_or(io::ErrorKind::NotFound)?.to_path_buf())
-}
-
-/// The public functions of a text in `rt fmt`'s layout, each in its own lines; the other lines are
-/// left empty.
-fn functions_alone(text: &str) -> String {
-    let mut inside = false;
-    let mut kept = String::new();
-    for line in text.lines() {
-        inside |= line.starts_with("pub fn ");
-        kept.push_str(if inside { line } else { "" });
-        kept.push('\n');
-        inside &= line != "}";
-    }
-    kept
 }

@@ -1,5 +1,5 @@
-//! The words of a Rattle text. What it says to the prover alone, a clause or a `ghost use`, runs
-//! in no program and is left out.
+//! The words of a Rattle text. What it says to the prover alone, a clause, a ghost field or member
+//! or a `ghost use`, runs in no program and is left out.
 
 #[derive(Clone, Copy, Debug, PartialEq, Eq)]
 pub enum Kind {
@@ -133,7 +133,10 @@ impl<'a> Lexer<'a> {
 
     fn take_sign(&mut self, sign: char) -> Result<(), String> {
         if sign == '{' && self.drop_clause_words() {
-            return self.pass_clause();
+            return self.pass_braces();
+        }
+        if sign == '{' && self.drop_member_words() {
+            return self.pass_member();
         }
         if let Some(long) = LONG_SIGNS.iter().find(|long| self.rest().starts_with(**long)) {
             self.take(Kind::Sign, long.len());
@@ -157,7 +160,43 @@ impl<'a> Lexer<'a> {
         true
     }
 
-    fn pass_clause(&mut self) -> Result<(), String> {
+    /// Takes back the words of a ghost field or member whose braces open here: `ghost name:` or
+    /// `ghost name =`.
+    fn drop_member_words(&mut self) -> bool {
+        let start = self.tokens.len().saturating_sub(3);
+        let [ghost, name, sign] = &self.tokens[start..] else {
+            return false;
+        };
+        let member = ghost.is("ghost") && name.kind == Kind::Name;
+        let member = member && (sign.is(":") || sign.is("="));
+        if member {
+            self.tokens.truncate(start);
+        }
+        member
+    }
+
+    /// A ghost field's or member's braces, a default's after them, and the `;` of a member.
+    fn pass_member(&mut self) -> Result<(), String> {
+        self.pass_braces()?;
+        if self.pass_blank_and("=") {
+            self.pass_blank_and("");
+            self.pass_braces()?;
+        }
+        self.pass_blank_and(";");
+        Ok(())
+    }
+
+    /// Over blanks to a word, and over it; whether it is there.
+    fn pass_blank_and(&mut self, word: &str) -> bool {
+        let ahead = self.rest().trim_start();
+        let there = ahead.starts_with(word);
+        if there {
+            self.pass(self.rest().len() - ahead.len() + word.len());
+        }
+        there
+    }
+
+    fn pass_braces(&mut self) -> Result<(), String> {
         let mut depth = 0;
         for (i, letter) in self.rest().char_indices() {
             match letter {

@@ -1,27 +1,35 @@
 //! All that calls run through, and the arrays among it.
 
-use crate::item::Sort;
-use crate::mention::{How, Mention, array_types, array_values, mentions};
+use crate::form::Form;
+use crate::item::Item;
+use crate::mention::{How, Mention, array_types, array_values, locals, mentions};
 use crate::program::{Named, Placed, Program};
-use std::collections::BTreeMap;
 use std::collections::btree_map::Entry;
+use std::collections::{BTreeMap, BTreeSet};
 use std::fmt;
 
-/// Types that no text declares. What they have of their own, as `u64::MAX`, is no function of a
-/// text either.
-const NUMBERS: [&str; 13] = [
-    "u8", "u16", "u32", "u64", "usize", "i8", "i16", "i32", "i64", "isize", "f32", "f64",
-    "bool",
+/// What the compiler makes instructions or loops of, and no call: of numbers, slices and ranges.
+const OWN: [&str; 10] = [
+    "count_ones",
+    "enumerate",
+    "iter",
+    "iter_mut",
+    "len",
+    "rev",
+    "step_by",
+    "wrapping_add",
+    "wrapping_mul",
+    "wrapping_sub",
 ];
 
-/// What a slice has of its own, and a number.
-const OWN: [&str; 3] = ["len", "wrapping_add", "wrapping_sub"];
+/// Calls that run a function of another name, of the `impl` that types choose.
+const TURNS: [(&str, &str); 2] = [("into", "from"), ("try_into", "try_from")];
 
 #[derive(Clone, Debug, PartialEq, Eq)]
 pub enum What {
     /// A type `[T; n]`, a value `[a, b]`, `[v; n]` or a byte string.
     Array,
-    /// A name whose item is in no text.
+    /// A name that stands for nothing, or a function that the compiler has and no text.
     NotFound(String),
     /// A function of C, whose text is not Rattle.
     Foreign,
@@ -52,120 +60,248 @@ impl fmt::Display for Fault {
     }
 }
 
-/// What was reached, and by what: the items in the order in which they were found.
+/// What is reached: an item of a text, or a function that the compiler's form alone has.
+#[derive(Clone, Debug, PartialEq, Eq, PartialOrd, Ord)]
+enum Node {
+    Item(usize),
+    Compiled(String),
+}
+
+/// What was reached, and by what: in the order in which it was found.
 #[derive(Debug)]
 pub struct Walk<'a> {
     program: &'a Program,
-    order: Vec<usize>,
-    by: BTreeMap<usize, Option<usize>>,
+    form: &'a Form,
+    order: Vec<Node>,
+    by: BTreeMap<Node, Option<Node>>,
     pub faults: Vec<Fault>,
 }
 
 impl<'a> Walk<'a> {
-    /// From functions, by their paths, through all that they name and all that those name.
-    pub fn from(program: &'a Program, starts: &[&str]) -> Result<Walk<'a>, String> {
+    /// From functions, by their paths, through all that they name and run, and all that those do.
+    /// Of a function that the form does not have, the text alone is followed.
+    pub fn from(
+        program: &'a Program,
+        form: &'a Form,
+        starts: &[&str],
+    ) -> Result<Walk<'a>, String> {
         let (order, by, faults) = (Vec::new(), BTreeMap::new(), Vec::new());
-        let mut walk = Walk { program, order, by, faults };
+        let mut walk = Walk { program, form, order, by, faults };
         for start in starts {
-            let Some(Named::Item(item)) = program.find_from_crates(start) else {
-                return Err(format!("there is no {start}"));
-            };
-            walk.reach(item, None);
+            let item = program.function(start).ok_or(format!("there is no {start}"))?;
+            walk.reach(Node::Item(item), None);
         }
         let mut next = 0;
         while next < walk.order.len() {
-            walk.visit(walk.order[next]);
+            let node = walk.order[next].clone();
+            match &node {
+                Node::Item(item) => walk.visit(&node, *item),
+                Node::Compiled(name) => walk.visit_compiled(&node, name),
+            }
             next += 1;
         }
         Ok(walk)
     }
 
-    /// The functions among what was reached.
+    /// The items of texts that were reached.
+    pub fn items(&self) -> impl Iterator<Item = usize> {
+        self.order.iter().filter_map(|node| match node {
+            Node::Item(item) => Some(*item),
+            Node::Compiled(_) => None,
+        })
+    }
+
+    /// The functions among them.
     pub fn functions(&self) -> impl Iterator<Item = usize> {
-        self.order.iter().copied().filter(|item| self.is_function(*item))
+        self.items().filter(|item| self.program.is_function(*item))
     }
 
-    fn is_function(&self, item: usize) -> bool {
-        self.program.item(item).item.sort == Sort::Function
+    /// The functions among what was reached that no text has.
+    pub fn compiled(&self) -> impl Iterator<Item = &str> {
+        self.order.iter().filter_map(|node| match node {
+            Node::Item(_) => None,
+            Node::Compiled(name) => Some(name.as_str()),
+        })
     }
 
-    fn reach(&mut self, item: usize, by: Option<usize>) {
-        if let Entry::Vacant(new) = self.by.entry(item) {
-            new.insert(by);
-            self.order.push(item);
+    fn reach(&mut self, node: Node, by: Option<&Node>) {
+        if let Entry::Vacant(new) = self.by.entry(node.clone()) {
+            new.insert(by.cloned());
+            self.order.push(node);
         }
     }
 
-    fn visit(&mut self, item: usize) {
+    fn visit(&mut self, node: &Node, item: usize) {
         let placed = self.program.item(item);
-        for array in array_types(&placed.item.types) {
-            self.add_fault(item, array.line, What::Array);
+        let Item { types, code, line, .. } = &placed.item;
+        let words = code.as_deref().unwrap_or_default();
+        for array in array_types(types).into_iter().chain(array_values(words)) {
+            self.add_fault(node, array.line, What::Array);
         }
-        for mention in mentions(&placed.item.types) {
-            self.follow(item, placed, &mention);
+        if code.is_none() && self.program.is_function(item) {
+            self.add_fault(node, *line, What::Foreign);
         }
-        let Some(code) = &placed.item.code else {
-            if placed.item.sort == Sort::Function {
-                self.add_fault(item, placed.item.line, What::Foreign);
+        let runs = self.form.get(&self.program.path(item)).map(|compiled| &compiled.runs);
+        let mut lost = BTreeSet::new();
+        let place = Place { placed, runs, locals: locals(types, words) };
+        for mention in mentions(types).into_iter().chain(mentions(words)) {
+            match place.found(self.program, &mention) {
+                Some(found) => {
+                    found
+                        .into_iter()
+                        .for_each(|found| self.reach(Node::Item(found), Some(node)));
+                }
+                None => {
+                    let name = mention.path.join("::");
+                    self.add_fault(node, mention.line, What::NotFound(name));
+                    lost.extend(mention.path.last().cloned());
+                }
             }
+        }
+        for name in runs.into_iter().flatten() {
+            let found = self.program.function(name);
+            if found.is_none() && !self.program.is_made(name) && !lost.contains(last(name)) {
+                self.add_fault(node, *line, What::NotFound(name.clone()));
+            }
+            self.reach_by_name(name, node);
+        }
+    }
+
+    fn reach_by_name(&mut self, name: &str, by: &Node) {
+        let found = self.program.function(name).map(Node::Item);
+        self.reach(found.unwrap_or_else(|| Node::Compiled(name.to_string())), Some(by));
+    }
+
+    fn visit_compiled(&mut self, node: &Node, name: &str) {
+        let Some(compiled) = self.form.get(name) else {
             return;
         };
-        for array in array_values(code) {
-            self.add_fault(item, array.line, What::Array);
+        if compiled.has_array {
+            self.add_fault(node, 0, What::Array);
         }
-        for mention in mentions(code) {
-            self.follow(item, placed, &mention);
+        compiled.runs.iter().for_each(|name| self.reach_by_name(name, node));
+    }
+
+    fn path(&self, node: &Node) -> String {
+        match node {
+            Node::Item(item) => self.program.path(*item),
+            Node::Compiled(name) => name.clone(),
         }
     }
 
-    fn follow(&mut self, item: usize, placed: &Placed, mention: &Mention) {
-        let found = match mention.how {
-            How::Method => self.methods(mention),
-            How::Call | How::Plain => self.named(placed, mention),
+    /// The items by which a start reaches an item, the start first.
+    pub fn way(&self, item: usize) -> Vec<String> {
+        self.way_to(&Node::Item(item))
+    }
+
+    fn way_to(&self, node: &Node) -> Vec<String> {
+        let mut way = Vec::new();
+        let mut by = self.by[node].as_ref();
+        while let Some(above) = by {
+            way.insert(0, self.path(above));
+            by = self.by[above].as_ref();
+        }
+        way
+    }
+
+    fn add_fault(&mut self, node: &Node, line: usize, what: What) {
+        let place = match node {
+            Node::Item(item) => format!("{}:{line}", self.program.item(*item).file),
+            Node::Compiled(_) => "as it is compiled".to_string(),
         };
-        match found {
-            Some(found) => found.into_iter().for_each(|found| self.reach(found, Some(item))),
-            None => {
-                let name = mention.path.join("::");
-                self.add_fault(item, mention.line, What::NotFound(name));
-            }
+        let (item, through) = (self.path(node), self.way_to(node));
+        self.faults.push(Fault { what, item, place, through });
+    }
+}
+
+/// Where a name stands: in an item, of which the compiler says what it runs where it has it.
+struct Place<'a> {
+    placed: &'a Placed,
+    runs: Option<&'a BTreeSet<String>>,
+    locals: BTreeSet<&'a str>,
+}
+
+impl Place<'_> {
+    /// The items that a name stands for; none of a text for what the compiler has of its own and
+    /// for a local value.
+    fn found(&self, program: &Program, mention: &Mention) -> Option<Vec<usize>> {
+        let (name, before) = mention.path.split_last()?;
+        let generic =
+            mention.path.first().filter(|name| self.placed.item.generics.contains(name));
+        match (mention.how, generic) {
+            (How::Method, _) => self.method(program, name),
+            (How::Call, Some(_)) if !before.is_empty() => self.method(program, name),
+            (_, Some(_)) => Some(Vec::new()),
+            (How::Call, None) if !before.is_empty() => self.called(program, name, before),
+            (how, None) => self.named(program, &mention.path, how),
         }
     }
 
-    /// Nothing tells here of which type a value is: so each function of this name.
-    fn methods(&self, mention: &Mention) -> Option<Vec<usize>> {
-        let name = &mention.path[0];
-        let found = self.program.methods(name);
-        (OWN.contains(&name.as_str()) || !found.is_empty()).then_some(found)
+    /// A text does not tell of which type a value is: so each function of this name, or those
+    /// among them that the compiler says are run.
+    fn method(&self, program: &Program, name: &str) -> Option<Vec<usize>> {
+        let turned = TURNS.iter().find(|(turns, _)| *turns == name);
+        let found = self.run(program, program.methods(turned.map_or(name, |(_, into)| into)));
+        let known = OWN.contains(&name) || !found.is_empty() || self.runs_made(program, name);
+        known.then_some(found)
     }
 
-    /// The item that a path names, or none for a number's own or for a local value. Functions are
-    /// no values in Rattle: a name of one that is not called is that of a local value.
-    fn named(&self, placed: &Placed, mention: &Mention) -> Option<Vec<usize>> {
-        let path = &mention.path;
-        if NUMBERS.contains(&path[0].as_str()) {
-            return Some(Vec::new());
-        }
-        let found = self.program.find(placed.module, placed.owner, path);
-        let may_be_local = mention.how == How::Plain
-            && path.len() == 1
-            && path[0].starts_with(|letter: char| letter.is_lowercase() || letter == '_');
-        match found {
-            Some(Named::Item(found)) if !(may_be_local && self.is_function(found)) => {
-                Some(vec![found])
+    /// `Type::name(..)`, or the same of a module.
+    fn called(&self, program: &Program, name: &str, before: &[String]) -> Option<Vec<usize>> {
+        let of = program.find(self.placed.module, self.placed.owner, before);
+        match of {
+            Some(of @ (Named::Item(_) | Named::Outside)) => {
+                let own = self.run(program, program.own(of, name));
+                if !own.is_empty() || self.runs_made(program, name) {
+                    return Some(own);
+                }
+                let variant = program.find_in_type(of, name);
+                variant.map(|item| vec![item])
             }
+            Some(Named::Module(_)) => {
+                let path = [before, &[name.to_string()]].concat();
+                self.named(program, &path, How::Call)
+            }
+            None => None,
+        }
+    }
+
+    /// A name in lower case that is no item's is that of a local value; so is one of a function
+    /// that is not called, but where the compiler says that this function is run.
+    fn named(&self, program: &Program, path: &[String], how: How) -> Option<Vec<usize>> {
+        let found = program.find(self.placed.module, self.placed.owner, path);
+        let first = &path[0];
+        let lower = first.starts_with(|letter: char| letter.is_lowercase() || letter == '_');
+        let may_be_local = path.len() == 1
+            && lower
+            && (how == How::Plain || self.locals.contains(first.as_str()));
+        match found {
+            Some(Named::Item(found)) if may_be_local && program.is_function(found) => {
+                let run = self.runs.map(|_| self.run(program, vec![found]));
+                Some(run.unwrap_or_default())
+            }
+            Some(Named::Item(found)) => Some(vec![found]),
+            Some(Named::Outside) => Some(Vec::new()),
             _ => may_be_local.then(Vec::new),
         }
     }
 
-    fn add_fault(&mut self, item: usize, line: usize, what: What) {
-        let mut through = Vec::new();
-        let mut by = self.by[&item];
-        while let Some(above) = by {
-            through.insert(0, self.program.path(above));
-            by = self.by[&above];
+    /// Those of functions that the compiler says are run here; all, where it says nothing.
+    fn run(&self, program: &Program, mut functions: Vec<usize>) -> Vec<usize> {
+        if let Some(runs) = self.runs {
+            functions.retain(|&function| runs.contains(&program.path(function)));
         }
-        let place = format!("{}:{line}", self.program.item(item).file);
-        self.faults.push(Fault { what, item: self.program.path(item), place, through });
+        functions
     }
+
+    /// Whether the compiler has a function of this name run here that it made itself, or that is
+    /// the toolchain's.
+    fn runs_made(&self, program: &Program, name: &str) -> bool {
+        let mut runs = self.runs.into_iter().flatten();
+        runs.any(|run| last(run) == name && program.is_made(run))
+    }
+}
+
+fn last(path: &str) -> &str {
+    path.rsplit_once("::").map_or(path, |(_, name)| name)
 }

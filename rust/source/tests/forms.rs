@@ -1,14 +1,26 @@
-//! Small texts, one for each form: which are arrays and which are not, what a name names, and what
-//! cannot be read.
+//! Small texts, one for each form: which are arrays and which are not, what a name names, what the
+//! compiler adds to it, and what cannot be read.
 
+use source::form::Form;
 use source::program::Program;
 use source::sources::Sources;
 use source::walk::{Fault, Walk, What};
 
-/// What is wrong below the function `start` of a crate `first` that needs a crate `second`.
+/// What is wrong below the function `start` of a crate `first` that needs a crate `second`, where
+/// the compiler says nothing.
 fn faults(files: &[(&str, &str)]) -> Result<Vec<Fault>, String> {
     let mut sources = Sources::default();
-    for (name, needs) in [("std", ""), ("first", "second"), ("second", ""), ("third", "")] {
+    sources.name("std", "");
+    sources.add("std/src/lib.rt", "");
+    faults_by(sources, files, &Form::default())
+}
+
+fn faults_by(
+    mut sources: Sources,
+    files: &[(&str, &str)],
+    form: &Form,
+) -> Result<Vec<Fault>, String> {
+    for (name, needs) in [("first", "second"), ("second", ""), ("third", "")] {
         sources.name(name, needs);
         sources.add(&format!("{name}/src/lib.rt"), "");
     }
@@ -16,7 +28,23 @@ fn faults(files: &[(&str, &str)]) -> Result<Vec<Fault>, String> {
         sources.add(file, text);
     }
     let program = Program::read(&sources, "first")?;
-    Ok(Walk::from(&program, &["first::start"])?.faults)
+    Ok(Walk::from(&program, form, &["first::start"])?.faults)
+}
+
+/// A function as the compiler has it: its name, what it runs, and whether it has an array.
+type Function<'a> = (&'a str, &'a str, bool);
+
+/// What is wrong below `start` of one text, where the compiler says what its functions run.
+fn compiled(text: &str, functions: &[Function]) -> Vec<Fault> {
+    let form = functions.iter().map(|(name, runs, has_array)| {
+        let runs = runs.split_whitespace().map(|run| format!("{{\"Fn\":[\"{run}\"]}}"));
+        let array = has_array.then(|| "\"Array\"".to_string());
+        let body = Vec::from_iter(runs.chain(array)).join(",");
+        format!("[\"{name}\",{{\"lifetimes\":0,\"body\":[{body}]}}]")
+    });
+    let form = Form::read(&[format!("[{}]", Vec::from_iter(form).join(","))]);
+    let read = faults_by(Sources::default(), &[("first/src/lib.rt", text)], &form);
+    read.unwrap_or_else(|fault| panic!("{text}: {fault}"))
 }
 
 fn in_first(text: &str) -> Vec<Fault> {
@@ -50,6 +78,12 @@ fn arrays_in_a_body() {
         "let Some { row: part } = [n];",
         "if n { n } [1]",
         "return [n][0];",
+        "let rows = |cell: u64| [cell; 4];",
+        "let sum = |cells: &[u64]| n; sum(&[n])",
+        "for cell in n.iter().rev() { |n| n == [cell] }",
+        "let Some(row) = n else { return [n]; };",
+        "start::<[u64; 4]>(n)",
+        "#[inline] { [n] }",
         "start(&mut [0; 4])",
         "start([n][0])",
         "break 'rows [n];",
@@ -77,8 +111,16 @@ fn no_arrays_in_a_body() {
         "'rows: for i in 0..n { if row.len() < i { break 'rows; } }",
         "for i in 0..=row[n] { let byte = b'['; let quote = b'\\''; }",
         "let first = 0.5; let second = 1..2; let pair = p.0[n];",
+        "let Some(cell) = first else { return; }; let Pair { left, .. } = row[n];",
+        "let size = Size { high: n, wide, ..size }; if let Ok(cell) | Err(cell) = row[n] { }",
+        "match n { 1 | 2 => row[0], 3..=9 if n < 5 => row[1], _ => first?[n], }",
+        "let add = |cell: u64, &by| cell + by; let sum = add(row[n], n);",
+        "for cell in row.iter_mut().rev() { *cell = cell.wrapping_add(n); }",
+        "#[inline(always)] for (i, cell) in row.iter().enumerate() { row[i] << 2 >> 1; }",
     ] {
-        let faults = in_first(&format!("pub fn start(row: &[u64], n: usize) {{ {body} }}"));
+        let size = "struct Size { wide: u64, high: u64 } struct Pair { left: u64 }";
+        let faults =
+            in_first(&format!("{size} pub fn start(row: &[u64], n: usize) {{ {body} }}"));
         assert!(faults.is_empty(), "{body}: {faults:#?}");
     }
 }
@@ -102,6 +144,19 @@ fn arrays_in_signatures_types_and_constants() {
         ("Row", "struct Row { c: [u8; 2] } struct Two { row: Row } fn start(two: &mut Two) {}"),
         ("other", "fn start() { let row = other(); } fn other() -> [u64; 2] {}"),
         ("other", "fn start() { let row = other::<>(); } fn other() -> [u64; 2] {}"),
+        ("start", "fn start<const N: usize>(row: &[u64; N]) {}"),
+        ("start", "fn start<T: From<[u64; 2]>>(row: T) {}"),
+        ("start", "fn start(each: impl FnMut([u64; 2])) {}"),
+        ("Row", "struct Row<T> where T: From<[u8; 2]> { c: T } fn start(row: Row<u64>) {}"),
+        ("Row", "struct Row { ghost is: { Lawful c }, c: [u8; 2] } fn start(row: &mut Row) {}"),
+        ("Row", "enum Row<T> { A(T), B([u8; 2]) } fn start(row: Row<u64>) {}"),
+        ("Row", "trait Row: From<[u8; 2]> { fn row(self); } fn start(row: impl Row) {}"),
+        ("S::ROW", "struct S; impl S { const ROW: [u8; 1] = [1]; } fn start() { S::ROW; }"),
+        (
+            "ST::Row",
+            "struct S; impl T for S { type Row = [u8; 1]; } trait T { type Row; } \
+                    fn start(row: S::Row) {}",
+        ),
     ] {
         let faults = in_first(text);
         let item = format!("first::{item}");
@@ -120,6 +175,14 @@ fn no_arrays_in_signatures_types_and_constants() {
         "struct S { n: u64, ghost { [u8; 2] } } fn start(s: S) {}",
         "const ROW: [u64; 2] = [1, 2]; fn other() -> [u64; 2] { ROW } fn start() {}",
         "fn other() -> [u64; 2] {} fn start() { let other = 3; other }",
+        "struct S { n: u64, ghost in_n: { n < length [0; 4] }, } fn start(s: S) {}",
+        "struct S; impl S { ghost use a.{c, _[_]}; fn a() {} } fn start() { S::a() }",
+        "impl From<S> for u8 { ghost from_gives = { λ s n. [n; 4] }; fn from(s: S) -> u8 { 0 } } \
+         struct S; fn start(s: S) { u8::from(s) }",
+        "trait T { ghost area: { Self → ℕ } = { λ s. [s] }; fn a(); } fn start(t: impl T) {}",
+        "#[derive(Clone, Copy)] struct S; #[tactic(auto, using(a::[b; 4]))] fn start(s: S) {}",
+        "fn start<'a, T, const N: usize>(s: &'a [T]) -> T where T: From<u8> { N; s[N] }",
+        "pub(crate) const fn start() -> Option<u64> { None::<u64>; Some(3) }",
     ] {
         let faults = in_first(text);
         assert!(faults.is_empty(), "{text}: {faults:#?}");
@@ -185,9 +248,90 @@ fn functions_of_types() {
         "struct S<'a>(u8); impl<'a> S<'a> { pub fn deep(self) { [0] } } fn start() { n.deep() }",
         "struct T; struct S; impl T { fn deep() {} } impl S { fn deep(self) { [0] } } \
          fn start() { n.deep() }",
+        "struct S<T>(T); impl<T: Into<u8>> S<T> { fn deep(&self) { [0] } } \
+         fn start() { S::<u8>::deep(n) }",
+        "struct S; impl S { fn a(&self) -> &Self { self.deep() } fn deep(&self) { [0] } } \
+         fn start(s: S) { s.b.iter().len(|n| n.a()) }",
+        "trait S { fn a(); fn deep(self) { [0] } } fn start(s: impl S) { s.deep() }",
+        "trait S { fn deep() { [0] } } fn start<T: S>() { T::deep() }",
     ] {
         let faults = in_first(text);
         assert_eq!(only(&faults), ("first::S::deep", &What::Array), "{text}");
+    }
+}
+
+/// The compiler's name for such an `impl` is part of the path.
+#[test]
+fn functions_of_traits() {
+    let text = "struct S; struct Unknown; \
+        impl TryFrom<u8> for S { type Error = Unknown; \
+            fn try_from(n: u8) -> Result<Self, Self::Error> { Ok([S]) } } \
+        impl From<&second::Other> for S { fn from(n: &second::Other) -> S { S } } \
+        impl From<S> for u64 { fn from(s: S) -> u64 { [3][0] } } ";
+    let other = ("second/src/lib.rt", "pub struct Other;");
+    for (item, start) in [
+        ("STryFromU8::try_from", "fn start() { S::try_from(3)?; }"),
+        ("STryFromU8::try_from", "fn start(n: u8) -> Option<S> { n.try_into().len() }"),
+        ("U64FromS::from", "fn start(s: S) -> u64 { s.into() }"),
+        ("U64FromS::from", "fn start(s: S) -> u64 { u64::from(s) }"),
+    ] {
+        let text = format!("{text}{start}");
+        let faults = faults(&[("first/src/lib.rt", &text), other]);
+        let faults = faults.unwrap_or_else(|fault| panic!("{text}: {fault}"));
+        assert_eq!(only(&faults), (&*format!("first::{item}"), &What::Array), "{start}");
+    }
+}
+
+/// A call that no word names, one that a method's name leaves open, and what the toolchain has.
+#[test]
+fn what_the_compiler_runs() {
+    let text = "#[derive(PartialEq)] struct T; struct S; impl T { fn deep() {} } \
+        impl S { fn deep(self) { [0] } } impl From<T> for S { fn from(t: T) -> S { [S][0] } } ";
+    let (deep, of_t) = (("first::S::deep", "", true), ("first::T::deep", "", false));
+    let from = ("first::SFromT::from", "", true);
+    let all = [deep, of_t, from, ("first::TPartialEq::eq", "core::any", false)];
+    let core = [("core::any", "core::below", false), ("core::below", "", true)];
+    for (item, runs, body) in [
+        ("first::S::deep", "first::S::deep", "n.deep()"),
+        ("", "first::T::deep", "n.deep()"),
+        ("first::SFromT::from", "first::SFromT::from", "n?"),
+        ("", "", "n?"),
+        ("core::below", "core::any", "n.iter().any(|n| n < 3)"),
+        ("core::below", "core::any", "u64::any(n)"),
+        ("core::below", "first::TPartialEq::eq", "n == n"),
+        ("core::below", "first::TPartialEq::eq", "T::eq(n, n)"),
+    ] {
+        let text = format!("{text} fn start(n: u64) {{ {body} }}");
+        let faults =
+            compiled(&text, &[&all[..], &core, &[("first::start", runs, false)]].concat());
+        match item {
+            "" => assert!(faults.is_empty(), "{body}: {faults:#?}"),
+            _ => assert_eq!(only(&faults), (item, &What::Array), "{body}"),
+        }
+    }
+}
+
+/// A name that the compiler does not have run is not found; and neither is what it has run, where
+/// no text and no derive has it.
+#[test]
+fn what_the_compiler_does_not_run() {
+    let text = "struct T; impl T { fn deep(self) {} } struct S; ";
+    let core = [("core::any", "", false), ("first::T::deep", "", false)];
+    let lost = [("first::SFromT::from", "", false), ("first::TClone::clone", "", false)];
+    for (name, runs, body) in [
+        ("other_any", "core::any", "n.other_any()"),
+        ("u64::other_any", "core::any", "u64::other_any(n)"),
+        ("any", "", "n.any()"),
+        ("deep", "", "n.deep()"),
+        ("T::deep", "", "T::deep(n)"),
+        ("T::any", "", "T::any(n)"),
+        ("first::SFromT::from", "first::SFromT::from", "n?"),
+        ("clone", "first::TClone::clone", "n.clone()"),
+    ] {
+        let text = format!("{text} fn start(n: u64) {{ {body} }}");
+        let faults =
+            compiled(&text, &[&core[..], &lost, &[("first::start", runs, false)]].concat());
+        assert_eq!(only(&faults), ("first::start", &What::NotFound(name.into())), "{body}");
     }
 }
 
@@ -210,6 +354,10 @@ fn names_that_are_not_found() {
         ("OTHER", "fn start() { OTHER + 1 }"),
         ("S::Other", "enum S { One } fn start() { match n { S::Other => 0, } }"),
         ("Self::other", "fn start() { Self::other(); }"),
+        ("T::other", "fn start<T>(n: T) { T::other(); }"),
+        ("u64::from", "fn start(n: u8) { u64::from(n); }"),
+        ("S::default", "struct S; fn start() { S::default(); }"),
+        ("any", "fn start(n: &[u8]) { n.iter().any(|n| n < 3); }"),
     ] {
         let files =
             [("first/src/lib.rt", text), ("third/src/lib.rt", DEEP), ("second/src/lib.rt", "")];
@@ -253,6 +401,16 @@ fn texts_that_cannot_be_read() {
         ("first/src/lib.rt: line 1: a quotation without an end", "fn start() { b\"\\\" }"),
         ("first/src/lib.rt: two items have the name a", "fn a() {} mod a {}"),
         ("first/src/lib.rt: there is no type S", "impl S { fn start() {} }"),
+        ("first/src/lib.rt: there is no type u8", "impl u8 { fn start() {} }"),
+        ("first/src/lib.rt: line 1: a name expected, not &", "impl From<u8> for &S {}"),
+        (
+            "two functions have the path first::S::a",
+            "struct S; impl S { fn a() {} } impl S { fn a() {} }",
+        ),
+        (
+            "first/src/lib.rt: line 1: an item of an unknown form, macro",
+            "struct S; impl S { macro m() {} }",
+        ),
         ("there is no first/src/a.rt", "mod a;"),
         ("there is no first::start", "fn other() {}"),
         ("there is no first::start", "mod start {}"),

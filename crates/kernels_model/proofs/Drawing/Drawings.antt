@@ -37,23 +37,10 @@ back-row y k a = omega arith
 left_column : (r : ℕ) → r + margin - r ≡ margin
 left_column r = omega arith
 
-no_flat : (n : ℕ) → n + 0 ≡ n
-no_flat n = omega arith
-
 -- LINES WITHOUT A LEVEL PIECE, AND WITH ONE
 diamond_drawn : (r : ℕ) → drawn_marks (Lines (outline_of r 0 1 r 0 false)) ≡ diamond_marks r (r + margin) (r + margin)
 unfolding drawn_marks line_pieces outline_of diamond_marks outline_marks line_marks flipped
-diamond_drawn r =
-    let y = r + margin - 0 in
-    let z = r + margin + 0 + 1 in
-    rw (
-      left_column r,
-      no_flat (margin + r),
-      rise_row y r (1 * r),
-      past_row y 1 r (omega arith),
-      fall_row z r (1 * r),
-      back-row z 1 r,
-    )
+diamond_drawn r = grind arith
 
 -- the last piece has a column more than the first
 flat_drawn : (r h k a b c : ℕ) → c ≡ a + 1 → h + k * a ≤ r

@@ -19,12 +19,7 @@ use Rattle.kernels_model.specs.Drawing.{moved}
 -- AS MANY AS THE TABLE SAYS
 tap-marks_count : (s : Shape) (r X Y : ℕ) → length (tap_marks s r X Y) ≡ tap_count s
 unfolding tap_marks box_marks box_grid marks_to diamond_marks hexagon_marks octagon_marks outline_marks line_marks flipped
-tap-marks_count Box r X Y = refl
-tap-marks_count Tent r X Y = refl
-tap-marks_count Triple r X Y = refl
-tap-marks_count Diamond r X Y = refl
-tap-marks_count Hexagon r X Y = refl
-tap-marks_count Octagon r X Y = refl
+tap-marks_count s r X Y = grind arith
 
 scaled-length : (c : ℕ) (ms : List Mark) → length (scaled c ms) ≡ length ms
 unfolding scaled
@@ -125,10 +120,7 @@ moved_to a b f g (suc n) h = rw (moved_to a b f g n h, h n, moved_append)
 
 mark-moved : (a b p x c y d w : ℕ) → mark p (x + a + c) (y + b + d) w ∷ [] ≡ moved a b (mark p (x + c) (y + d) w ∷ [])
 unfolding moved
-mark-moved a b p x c y d w =
-    let e : x + a + c ≡ x + c + a = omega arith in
-    let f : y + b + d ≡ y + d + b = omega arith in
-    rw (e, f)
+mark-moved a b p x c y d w = grind arith
 
 grid_moved : (a b p n l x y : ℕ) → box_grid p n l (x + a) (y + b) ≡ moved a b (box_grid p n l x y)
 unfolding box_grid

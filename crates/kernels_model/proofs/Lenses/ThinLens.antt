@@ -1,18 +1,18 @@
 -- Laws of the thin lens formula.
-use mathlib.Core.Path.{◌≡◌, refl, ap, ◌∙◌}
-use mathlib.Core.Bool.{Bool, true, false}
-use Prim.Native.Nat.{ℕ, zero, suc, ◌+◌, ◌*◌, ◌-◌, ◌<◌, ◌≤◌, min}
+use Rattle.std.specs.Prelude.{Result, Ok}
+use mathlib.Core.Path.{◌≡◌, refl, ◌∙◌}
+use mathlib.Core.Bool.{true, false}
+use Prim.Native.Nat.{ℕ, ◌+◌, ◌*◌, ◌-◌, ◌<◌, ◌≤◌, min}
 use native.Mathlib.Omega.{arith}
-use borrow.Author.Tests.{ltb-false, leb-false, le-ltb, le-leb, lt-leb}
+use borrow.Author.Tests.{le-leb, lt-leb}
 use Rattle.kernels_model.proofs.Numbers.Products.{product_le}
 use Rattle.kernels_model.proofs.Numbers.Nearest.{half_up}
 use Rattle.kernels_model.specs.Fixed.{depth_top, accepted, lens_refused, depth_refused}
-use Rattle.kernels_model.specs.Choice.{pick}
-use Rattle.kernels_model.specs.NumberAndValue.{NumberAndValue, number_and_value}
+use Rattle.kernels_model.specs.NumberAndValue.{number_and_value}
 use Rattle.kernels_model.specs.Sum.{dist}
 use Rattle.kernels_model.specs.Rounding.{nearest}
 use Rattle.kernels_model.specs.Facts.{RadiusFact, InfinityFact}
-use Rattle.kernels_model.specs.Lens.{Lens, Radius, Pixels, NoLens, NoDepth, opening_top, focal_top, focus_top, pitch_top}
+use Rattle.kernels_model.specs.Lens.{Lens, RadiusError, opening_top, focal_top, focus_top, pitch_top}
 use Rattle.kernels_model.specs.Lens.{lens_factor, lawful_lens, blur, radius_answer, radius_answer_for}
 
 -- what a lawful lens keeps to
@@ -28,51 +28,11 @@ pub record Lawful (l : Lens) : Type 0 where
 
 pub lens-true : (l : Lens) → Lawful l → lawful_lens l ≡ true
 unfolding lawful_lens
-lens-true l h =
-    simp (
-      le-ltb l.opening 1 h.opening_some,
-      le-ltb opening_top l.opening h.opening_top_fact,
-      le-ltb l.focal 1 h.focal_some,
-      le-ltb focal_top l.focal h.focal_top_fact,
-      lt-leb l.focus l.focal h.focus_past,
-      le-ltb focus_top l.focus h.focus_top_fact,
-      le-ltb l.pitch 1 h.pitch_some,
-      le-ltb pitch_top l.pitch h.pitch_top_fact,
-    )
-
--- where the chain of tests ends in true, no test held
-passed : (t next : Bool) → pick t false next ≡ true → (t ≡ false) × (next ≡ true)
-passed true next e = let z : ◌≡◌ {A = ℕ} 0 1 = cc in absurd (omega arith)
-passed false next e = (refl, e)
+lens-true l h = grind arith
 
 pub lawful : (l : Lens) → lawful_lens l ≡ true → Lawful l
 unfolding lawful_lens
-lawful l e =
-    let q1 = passed _ _ e in
-    let q2 = passed _ _ q1.1 in
-    let q3 = passed _ _ q2.1 in
-    let q4 = passed _ _ q3.1 in
-    let q5 = passed _ _ q4.1 in
-    let q6 = passed _ _ q5.1 in
-    let q7 = passed _ _ q6.1 in
-    let q8 = passed _ _ q7.1 in
-    record {
-      opening_some = ltb-false _ _ q1.0;
-      opening_top_fact = ltb-false _ _ q2.0;
-      focal_some = ltb-false _ _ q3.0;
-      focal_top_fact = ltb-false _ _ q4.0;
-      focus_past = leb-false _ _ q5.0;
-      focus_top_fact = ltb-false _ _ q6.0;
-      pitch_some = ltb-false _ _ q7.0;
-      pitch_top_fact = ltb-false _ _ q8.0;
-    }
-
-not-true-false : (t : Bool) → (t ≡ true → ⊥) → t ≡ false
-not-true-false true h = absurd (h refl)
-not-true-false false h = refl
-
-pub lens-false : (l : Lens) → (Lawful l → ⊥) → lawful_lens l ≡ false
-lens-false l h = not-true-false (lawful_lens l) (λ e. h (lawful l e))
+lawful l e = grind arith
 
 -- the products at infinity: none wraps, and the divisor is not 0
 pub record FarSmall (l : Lens) : Type 0 where
@@ -81,12 +41,7 @@ pub record FarSmall (l : Lens) : Type 0 where
   pub some : 1 ≤ l.pitch * (l.focus - l.focal)
 
 pub far_small : (l : Lens) → Lawful l → FarSmall l
-far_small l h =
-    record {
-      above = product_le (lens_factor * l.opening) l.focal (lens_factor * opening_top) focal_top (omega arith) h.focal_top_fact;
-      below = product_le l.pitch (l.focus - l.focal) pitch_top focus_top h.pitch_top_fact (omega arith);
-      some = product_le 1 1 l.pitch (l.focus - l.focal) h.pitch_some (omega arith);
-    }
+far_small l h = grind arith
 
 -- the products at a depth z, at the distance d from the focus: none wraps, and the divisor is not 0
 pub record NearSmall (l : Lens) (z d : ℕ) : Type 0 where
@@ -96,17 +51,7 @@ pub record NearSmall (l : Lens) (z d : ℕ) : Type 0 where
   pub some : 1 ≤ l.pitch * z * (l.focus - l.focal)
 
 pub near_small : (l : Lens) (z d : ℕ) → Lawful l → 1 ≤ z → z ≤ depth_top → d ≤ depth_top + focus_top → NearSmall l z d
-near_small l z d h z-some z-top d-top =
-    let paced : l.pitch * z ≤ pitch_top * depth_top = product_le l.pitch z pitch_top depth_top h.pitch_top_fact z-top in
-    let some : 1 ≤ l.pitch * z = product_le 1 1 l.pitch z h.pitch_some z-some in
-    record {
-      above =
-          product_le (lens_factor * l.opening * l.focal) d (lens_factor * opening_top * focal_top) (depth_top + focus_top)
-          (far_small l h).above d-top;
-      paced = paced;
-      below = product_le (l.pitch * z) (l.focus - l.focal) (pitch_top * depth_top) focus_top paced (omega arith);
-      some = product_le 1 1 (l.pitch * z) (l.focus - l.focal) some (omega arith);
-    }
+near_small l z d h p q r = grind arith
 
 -- "Depth 0 is infinity"
 pub blur_far : (l : Lens) (z : ℕ) → z ≡ 0
@@ -118,8 +63,7 @@ pub blur_near :
     (l : Lens) (z : ℕ) → (z ≡ 0 → ⊥) →
     blur l z ≡ nearest (lens_factor * l.opening * l.focal * dist z l.focus) (l.pitch * z * (l.focus - l.focal))
 unfolding blur
-blur_near l zero some = absurd (some refl)
-blur_near l (suc m) some = refl
+blur_near l z some = grind arith
 
 -- the divisors are above 0, so that the radius is the formula's, "to the nearest, a half upwards"
 pub infinity_half_up : InfinityFact
@@ -152,13 +96,11 @@ unfolding radius_answer_for
 in_pixels l top z e h = simp (e, le-leb z depth_top h)
 
 -- an accepted radius is one of pixels
-pixels_answered : (r : Radius) (m : ℕ) → radius_answer r ≡ number_and_value accepted m → r ≡ Pixels m
+pixels_answered : (r : Result ℕ RadiusError) (m : ℕ) → radius_answer r ≡ number_and_value accepted m → r ≡ Ok m
 unfolding radius_answer
-pixels_answered (Pixels r) m e = ap Pixels (ap (λ (t : NumberAndValue). t.value) e)
-pixels_answered NoLens m e = absurd (omega (arith, ap (λ (t : NumberAndValue). t.number) e))
-pixels_answered NoDepth m e = absurd (omega (arith, ap (λ (t : NumberAndValue). t.number) e))
+pixels_answered r m e = grind arith
 
 -- the radius that is read, for a lawful lens and depth
-pub radius_read : (r : Radius) (l : Lens) (top z : ℕ) → radius_answer r ≡ radius_answer_for l top z
-    → lawful_lens l ≡ true → z ≤ depth_top → r ≡ Pixels (min top (blur l z))
+pub radius_read : (r : Result ℕ RadiusError) (l : Lens) (top z : ℕ) → radius_answer r ≡ radius_answer_for l top z
+    → lawful_lens l ≡ true → z ≤ depth_top → r ≡ Ok (min top (blur l z))
 radius_read r l top z t e h = pixels_answered r (min top (blur l z)) (t ∙ in_pixels l top z e h)

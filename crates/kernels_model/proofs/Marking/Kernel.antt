@@ -72,20 +72,14 @@ three_runs_rows k a b c y i m l h g e =
 
 -- the nearer end of 2 r + 1 columns
 nearer : (r a i w : ℕ) → i ≤ 2 * r → w ≡ 2 * r → min a (r - dist i r) ≡ min a (min i (w - i))
-nearer r a i w g e = rw (e, nearer_end r i g)
-  where
-    nearer_end : (r i : ℕ) → i ≤ 2 * r → r - dist i r ≡ min i (2 * r - i)
-    nearer_end r i g = omega arith
+nearer r a i w g e = grind arith
 
 hexagon_height_lem : (r t d : ℕ) → min (2 * t) (2 * (r - d)) ≡ 2 * min t (r - d)
 hexagon_height_lem r t d = omega arith
 
 pub hexagon_walks : (r t Y : ℕ) → 2 * t ≤ r → r + 1 ≤ Y → Walks 0 (three_runs 2 t (2 * (r - t))) Y
 unfolding Inside flipped
-hexagon_walks r t Y h q = (
-  (omega arith, (omega arith, (omega arith, tt))),
-  (omega arith, (omega arith, (omega arith, tt))),
-)
+hexagon_walks r t Y h q = grind arith
 
 hexagon_kernel : (r X Y x y : ℕ) → r ≤ X → r + 1 ≤ Y
     → finish (planes_of (hexagon_marks r (half r) X Y)) x y % 2 ^ 64 ≡ column_tap (hexagon_height r) r (dist x X) (dist y Y) % 2 ^ 64
@@ -112,10 +106,7 @@ dist_le r i h = omega arith
 
 pub octagon_walks : (r t Y : ℕ) → t ≤ r → r + 1 ≤ Y → Walks t (three_runs 1 (r - t) (2 * t)) Y
 unfolding Inside flipped
-octagon_walks r t Y h q = (
-  (omega arith, (omega arith, (omega arith, tt))),
-  (omega arith, (omega arith, (omega arith, tt))),
-)
+octagon_walks r t Y h q = grind arith
 
 -- for every t from 0 to r
 pub octagon_kernel : (r t X Y x y : ℕ) → t ≤ r → r ≤ X → r + 1 ≤ Y

@@ -9,8 +9,7 @@ use Rattle.kernels_model.specs.Choice.{pick, within, same, strip}
 
 -- a proof by two cases
 pub by_test : {P : Type 0} (t : Bool) → (t ≡ true → P) → (t ≡ false → P) → P
-by_test true p q = p refl
-by_test false p q = q refl
+by_test t p q = grind arith
 
 pub by_lt : {P : Type 0} (a b : ℕ) → (a < b → P) → (b ≤ a → P) → P
 by_lt a b p q = by_test (ltb a b) (λ e. p (ltb-true a b e)) (λ e. q (ltb-false a b e))
@@ -19,8 +18,7 @@ pub by_eq : {P : Type 0} (a b : ℕ) → (a ≡ b → P) → ((a ≡ b → ⊥) 
 by_eq a b p q = by_test (eqb a b) (λ e. p (eqb-true a b e)) (λ e. q (eqb-false a b e))
 
 pub pick_if : (t : Bool) (x y z : ℕ) → (t ≡ true → x ≡ z) → (t ≡ false → y ≡ z) → pick t x y ≡ z
-pick_if true x y z p q = p refl
-pick_if false x y z p q = q refl
+pick_if t x y z p q = grind arith
 
 pub if_within : (a b w z : ℕ) → (a ≤ b → w ≡ z) → (b < a → 0 ≡ z) → within a b w ≡ z
 unfolding within

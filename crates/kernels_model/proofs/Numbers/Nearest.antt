@@ -1,20 +1,14 @@
 -- Laws of rounding to the nearest, a half upwards and a half to even.
-use mathlib.Core.Path.{◌≡◌, refl, sym, ap, ◌∙◌}
-use Prim.Native.Nat.{ℕ, zero, suc, ◌+◌, ◌*◌, ◌-◌, ◌/◌, ◌%◌, ◌<◌, ◌≤◌, min}
+use mathlib.Core.Path.{◌≡◌, sym, ap, ◌∙◌}
+use Prim.Native.Nat.{ℕ, ◌+◌, ◌*◌, ◌-◌, ◌/◌, ◌%◌, ◌<◌, ◌≤◌, min}
 use native.Mathlib.Omega.{arith}
-use native.Mathlib.Nat.{div-add-mod', mod-lt, mul-le-mul_left, mul-le-mul_right}
-use borrow.Author.Tests.{eqb-true, eqb-false}
+use native.Mathlib.Nat.{div-add-mod', mod-lt, mul-le-mul_right}
 use lib.Arith.{digits_div}
-use lib.Dec.{eqb}
 use Rattle.kernels_model.specs.Fixed.{value_top, matte_unit, matte_top}
 use Rattle.kernels_model.specs.Rounding.{nearest, even_from, nearest_even, shown_value, shown_matte}
-use Rattle.kernels_model.specs.Facts.{ToEven, EvenOnce, ValueFact, ValueTopFact, HalfUp, HalfUpOnce, NearestFact, MatteFact}
+use Rattle.kernels_model.specs.Facts.{ToEven, EvenOnce, ValueFact, ValueTopFact, HalfUpOnce, NearestFact, MatteFact}
 use Rattle.kernels_model.specs.Facts.{MatteTopFact}
-use Rattle.kernels_model.proofs.Numbers.Choices.{pick_if, by_lt}
-
--- a quotient by 2 or more is at most half, so one more of it is still a number of 64 bits
-pub quotient_half : (a b : ℕ) → 2 ≤ b → 2 * (a / b) ≤ a
-quotient_half a b two = omega (arith, div-add-mod' a b, mul-le-mul_left (a / b) two)
+use Rattle.kernels_model.proofs.Numbers.Choices.{by_lt}
 
 -- A HALF UPWARDS
 -- q is nearest to a / b where 2 q b reaches 2 a + b but for less than 2 b
@@ -41,26 +35,14 @@ half_up a b some =
     (λ h. rw (nearest-down a b h) (record { near = omega (arith, whole); up = λ e. omega (arith, whole) }))
     (λ h. rw (nearest_up a b some h) (record { near = omega (arith, whole); up = λ e. omega (arith, whole) }))
 
--- of two such numbers none is the lower: it would be exactly half of b below a
-not_lower : (a b v w : ℕ) → 0 < b → HalfUp a b v → HalfUp a b w → v < w → ⊥
-not_lower a b v w some p q h =
-    let apart = mul-le-mul_right b h in
-    omega (arith, p.up (omega (arith, p.near, q.near)))
-
 pub half_up_once : HalfUpOnce
-half_up_once a b v w some p q =
-    by_lt v w
-    (λ h. absurd (not_lower a b v w some p q h))
-    (λ k. by_lt w v (λ h. absurd (not_lower a b w v some q p h)) (λ l. omega arith))
+half_up_once a b v w some p q = grind arith
 
 -- A HALF TO EVEN
 -- how an equation is proved: for a half, and for any other rest
 if_half : (a b z : ℕ) → (2 * (a % b) ≡ b → even_from (a / b) ≡ z) → ((2 * (a % b) ≡ b → ⊥) → nearest a b ≡ z) → nearest_even a b ≡ z
 unfolding nearest_even
-if_half a b z p q =
-    pick_if (eqb (2 * (a % b)) b) (even_from (a / b)) (nearest a b) z
-    (λ e. p (eqb-true (2 * (a % b)) b e))
-    (λ e. q (eqb-false (2 * (a % b)) b e))
+if_half a b z p q = grind arith
 
 -- a rest that is above what it lacks, or that is as much where the quotient is odd
 pub even_up : (a b : ℕ) → 0 < b → b - a % b < a % b + a / b % 2 → nearest_even a b ≡ a / b + 1
@@ -104,8 +86,7 @@ value_none light matte e = rw e
 -- "else light / matte to the nearest, .. at most 4,095"
 pub value_some : (light matte : ℕ) → (matte ≡ 0 → ⊥) → shown_value light matte ≡ min value_top (nearest_even light matte)
 unfolding shown_value
-value_some light zero some = absurd (some refl)
-value_some light (suc m) some = refl
+value_some light matte some = grind arith
 
 -- below 4,095 and a half the nearest is at most 4,095
 pub value_to_even : ValueFact

@@ -9,8 +9,7 @@ use Rattle.kernels_model.proofs.Numbers.Choices.{by_lt, by_eq, within_yes, withi
 
 pub sum_ext : (f g : Row) → ((k : ℕ) → f k ≡ g k) → (n : ℕ) → sum f n ≡ sum g n
 unfolding sum
-sum_ext f g h zero = refl
-sum_ext f g h (suc n) = omega (arith, sum_ext f g h n, h n)
+sum_ext f g h n = grind arith
 
 pub sum_ext_lt : (f g : Row) (n : ℕ) → ((k : ℕ) → k < n → f k ≡ g k) → sum f n ≡ sum g n
 unfolding sum

@@ -17,8 +17,7 @@ at_cell x0 y0 w x y = same x x0 (same y y0 w)
 -- THE SUM IS LINEAR
 slope_ext : (d u : ℕ) (f g : Plane) → ((x y : ℕ) → f x y ≡ g x y) → (x y : ℕ) → slope d u f x y ≡ slope d u g x y
 unfolding slope
-slope_ext d u f g h zero y = h 0 y
-slope_ext d u f g h (suc x) y = rw (h (suc x) y, slope_ext d u f g h x (y + u - d))
+slope_ext d u f g h x y = grind arith
 
 pub slope-add : (d u : ℕ) (f g : Plane) (x y : ℕ)
     → slope d u (λ i j. f i j + g i j) x y ≡ slope d u f x y + slope d u g x y

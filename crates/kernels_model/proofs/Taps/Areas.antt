@@ -198,12 +198,7 @@ area_counted Octagon r = rw (one-mul r) (octagon_area r (half r) (omega arith))
 -- no kernel is empty
 counted_some : (s : Shape) (r : ℕ) → 0 < counted_area s r
 unfolding counted_area
-counted_some Box r = omega arith
-counted_some Tent r = omega arith
-counted_some Triple r = omega arith
-counted_some Diamond r = omega arith
-counted_some Hexagon r = omega arith
-counted_some Octagon r = omega arith
+counted_some s r = grind arith
 
 pub area_some : (s : Shape) (r : ℕ) → 0 < area s r
 area_some s r = rw (area_counted s r) (counted_some s r)

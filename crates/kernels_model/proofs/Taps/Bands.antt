@@ -58,22 +58,9 @@ row_taps Hexagon r dx dy =
     (λ g. if_within dx r _ _ (λ k. within_no dy (min (2 * half r) (2 * (r - dx))) 1 (omega arith)) (λ k. refl))
 row_taps Octagon r dx dy = octagon_row r (half r) dx dy
 
--- the column of the rows' own taps is no higher than the kernel, and no row is wider
-pub height_low : (s : Shape) (r : ℕ) → height_of s r ≤ r
-height_low Box r = omega arith
-height_low Tent r = omega arith
-height_low Triple r = omega arith
-height_low Diamond r = omega arith
-height_low Hexagon r = omega arith
-height_low Octagon r = omega arith
-
+-- no row is wider than the kernel
 pub row_narrow : (s : Shape) (r dy : ℕ) → row_radius s r dy ≤ r
-row_narrow Box r dy = omega arith
-row_narrow Tent r dy = omega arith
-row_narrow Triple r dy = omega arith
-row_narrow Diamond r dy = omega arith
-row_narrow Hexagon r dy = omega arith
-row_narrow Octagon r dy = omega arith
+row_narrow s r dy = grind arith
 
 -- WHERE THERE IS NO TAP
 -- a product of two numbers that are not 0

@@ -1,5 +1,6 @@
 -- The table of shares and remainders: its rule, by one computed test over the whole table, and what it holds for a shape and a
 -- radius.
+use Rattle.std.specs.Prelude.{Option, Some, None}
 use mathlib.Core.Path.{◌≡◌, refl, ap, sym, ◌∙◌}
 use mathlib.Core.Bool.{true}
 use mathlib.Core.List.{List}
@@ -9,14 +10,14 @@ use lib.ListN.{length, get_or}
 use borrow.Author.Tests.{lt-ltb, le-ltb}
 use Rattle.kernels_model.specs.Fixed.{radii, table_rows, table_numbers}
 use Rattle.kernels_model.specs.Choice.{within}
-use Rattle.kernels_model.specs.Shape.{Shape, ShapeRead, Known, Unknown, number_of, shape_of, top_of}
+use Rattle.kernels_model.specs.Shape.{Shape, number_of, shape_of, top_of}
 use Rattle.kernels_model.specs.Tap.{share_for, rest_for, share, rest}
 use Rattle.kernels_model.specs.Facts.{TableFact}
 use Rattle.kernels_model.specs.Share.{Share, share_up_to, rest_up_to, share_from, share_parts, parts_of, parts_at, share_table}
 use Rattle.kernels_model.specs.Share.{table_place, table_share}
 use Rattle.kernels_model.proofs.Numbers.Choices.{by_lt, within_yes, within_no}
 use Rattle.kernels_model.proofs.Taps.Areas.{counted_area, area_counted}
-use Rattle.kernels_model.proofs.Taps.ShapeNumbers.{number_le, number_back, top_small}
+use Rattle.kernels_model.proofs.Taps.ShapeNumbers.{number_le, top_small}
 use Rattle.kernels_model.proofs.Taps.TableRows.{rows_test, tested, rows_ext, each_in, rest_in}
 
 -- SHARES UP TO THE TOP
@@ -30,19 +31,19 @@ parts_above s r h = rw (within_no r (top_of s) (share s r) h, within_no r (top_o
 
 -- THE RULE
 -- share and remainder in a form that is quick to compute: with the counted area for the sum of all taps
-unfoldable pub quick_parts : ShapeRead → ℕ → Share
-quick_parts (Known s) r =
+unfoldable pub quick_parts : Option Shape → ℕ → Share
+quick_parts (Some s) r =
     share_from (within r (top_of s) (share_for (counted_area s r))) (within r (top_of s) (rest_for (counted_area s r)))
-quick_parts Unknown r = share_from 0 0
+quick_parts None r = share_from 0 0
 
 -- those of row k
 unfoldable pub quick_at : ℕ → Share
 quick_at k = quick_parts (shape_of (k / radii)) (k % radii)
 
-quick_parts_lem : (s : ShapeRead) (r : ℕ) → quick_parts s r ≡ parts_of s r
+quick_parts_lem : (s : Option Shape) (r : ℕ) → quick_parts s r ≡ parts_of s r
 unfolding quick_parts share_up_to rest_up_to
-quick_parts_lem (Known s) r = rw (← area_counted s r)
-quick_parts_lem Unknown r = refl
+quick_parts_lem (Some s) r = rw (← area_counted s r)
+quick_parts_lem None r = refl
 
 quick_at_lem : (k : ℕ) → quick_at k ≡ parts_at k
 unfolding quick_at parts_at
@@ -57,10 +58,7 @@ table_tested xs n t = tested quick_at 0 table_rows xs n t ∙ rows_ext quick_at 
 -- the row at the radii times the number, plus the radius
 parts_at_lem : (s : Shape) (r : ℕ) → r < radii → parts_at (radii * number_of s + r) ≡ share_parts s r
 unfolding parts_at
-parts_at_lem s r h =
-    let q : (radii * number_of s + r) / radii ≡ number_of s = omega arith in
-    let e : (radii * number_of s + r) % radii ≡ r = omega arith in
-    rw (q, e, number_back s)
+parts_at_lem s r h = grind arith
 
 -- what any table holds, for a radius that it has a place for and for one past them
 pub share_there : (table : List ℕ) (s : Shape) (r : ℕ) → r < radii

@@ -17,13 +17,9 @@ rows_test f k [] = true
 rows_test f k (x ∷ []) = false
 rows_test f k (x ∷ y ∷ xs) = pick (eqb x (f k).each) (pick (eqb y (f k).rest) (rows_test f (suc k) xs) false) false
 
-not-true : false ≡ true → ⊥
-not-true e = let z : ◌≡◌ {A = ℕ} 0 1 = cc in omega arith
-
 -- a test of both parts
 pub both_true : (a b : Bool) → pick a b false ≡ true → (a ≡ true) × (b ≡ true)
-both_true true b e = (refl, e)
-both_true false b e = absurd (not-true e)
+both_true a b e = grind arith
 
 -- a list of n rows that passes the test is the rows of the function
 pub tested :
@@ -31,7 +27,7 @@ pub tested :
 unfolding rows_test rows_from
 tested f k zero [] l e = refl
 tested f k (suc n) [] l e = absurd (omega arith)
-tested f k n (x ∷ []) l e = absurd (not-true e)
+tested f k n (x ∷ []) l e = grind arith
 tested f k zero (x ∷ y ∷ xs) l e = absurd (omega arith)
 tested f k (suc n) (x ∷ y ∷ xs) l e =
     let h = both_true (eqb x (f k).each) _ e in
@@ -44,8 +40,7 @@ tested f k (suc n) (x ∷ y ∷ xs) l e =
 -- two functions with the same values have the same rows
 pub rows_ext : (f g : ℕ → Share) → ((k : ℕ) → f k ≡ g k) → (k n : ℕ) → rows_from f k n ≡ rows_from g k n
 unfolding rows_from
-rows_ext f g h k zero = refl
-rows_ext f g h k (suc n) = λ i. (h k i).each ∷ (h k i).rest ∷ rows_ext f g h (suc k) n i
+rows_ext f g h k n = grind arith
 
 -- what stands in row i
 pub each_in : (f : ℕ → Share) (k n i : ℕ) → i < n → get_or (rows_from f k n) (table_columns * i) 0 ≡ (f (k + i)).each

@@ -1,4 +1,5 @@
 -- The change that a put or an undo reads is one of a place of the plate and two of its pixels.
+use Rattle.std.specs.Prelude.{Option, Some, None, Ok, Err}
 use mathlib.Core.Path.{◌≡◌, refl, sym}
 use Prim.Native.Nat.{ℕ, ◌/◌, ◌%◌, ◌≤◌, ◌<◌}
 use native.Mathlib.Omega.{arith}
@@ -6,10 +7,10 @@ use native.Mathlib.Nat.{mod-lt, div-add-mod'}
 use lib.ListN.{get_or, length}
 use Rattle.plate_model.specs.Layout.{places}
 use Rattle.plate_model.specs.Lent.{State, Ask, Lent, lengths_of}
-use Rattle.plate_model.specs.Word.{Unpacked, Whole, Broken, read_word, Entry, EntryRead, Logged, Unreadable, read_entry}
-use Rattle.plate_model.specs.Refusal.{Refusal, Outcome, Accepted, Refused, put_check, undo_check}
+use Rattle.plate_model.specs.Word.{read_word, Entry, read_entry, Pixel}
+use Rattle.plate_model.specs.Refusal.{Refusal, Outcome, put_check, undo_check}
 use Rattle.plate_model.specs.Asked.{asked_place, asked_pixel}
-use Rattle.plate_model.specs.Change.{Change, ToChange, NoChange, put_over, put_read_by, put_read, undo_over, undo_entry}
+use Rattle.plate_model.specs.Change.{Change, put_over, put_read_by, put_read, undo_over, undo_entry}
 use Rattle.plate_model.specs.Change.{undo_read_by, undo_read}
 use Rattle.plate_model.specs.Word.{Fits}
 use Rattle.plate_model.specs.Ready.{PutReady, PutReads, UndoReady, UndoReads}
@@ -18,18 +19,18 @@ use Rattle.plate_model.proofs.Checks.Accepted.{PlateAccepted, plate_accepted, As
 use Rattle.plate_model.proofs.Checks.Accepted.{some_accepted}
 use Rattle.plate_model.proofs.Words.Words.{read_fits, read_word_lem, word_small, entry_read}
 
-pub no_change : {P : Type 0} (f : Refusal) (c : Change) → NoChange f ≡ ToChange c → P
+pub no_change : {P : Type 0} (f : Refusal) (c : Change) → Err f ≡ Ok c → P
 no_change f c e = let z : ◌≡◌ {A = ℕ} 0 1 = cc in absurd (omega arith)
 
 -- PUT
 module _ (s : State) (a : Ask) (l : Lent) (byte : a.opacity < 256) (c : Change) where
   -- the arguments are lawful, and the word at their place is a pixel's
   put_whole : PlateAccepted s (lengths_of l) → AskAccepted s.size s.count (length l.log) a
-      → (u : Unpacked) → read_word s.size.reach (get_or l.pixels (asked_place s.size a) 0) ≡ u
-      → put_over u s.size a ≡ ToChange c → PutReady s c l
+      → (u : Option Pixel) → read_word s.size.reach (get_or l.pixels (asked_place s.size a) 0) ≡ u
+      → put_over u s.size a ≡ Ok c → PutReady s c l
   unfolding put_over
-  put_whole plate asked Broken w e = no_change _ c e
-  put_whole plate asked (Whole old) w e =
+  put_whole plate asked None w e = no_change _ c e
+  put_whole plate asked (Some old) w e =
       let z = s.size in
       let fits = read_fits z.reach _ old w in
       let full : s.count ≡ length l.log → ⊥ = asked.not_full in
@@ -53,11 +54,11 @@ module _ (s : State) (a : Ask) (l : Lent) (byte : a.opacity < 256) (c : Change) 
         has_room = omega (arith, plate.count_in);
       })
 
-  put_ready_by : (o : Outcome) → put_check s a (lengths_of l) ≡ o → put_read_by o s.size a l.pixels ≡ ToChange c
+  put_ready_by : (o : Outcome) → put_check s a (lengths_of l) ≡ o → put_read_by o s.size a l.pixels ≡ Ok c
       → PutReady s c l
   unfolding put_read_by put_check
-  put_ready_by (Refused f) k e = no_change f c e
-  put_ready_by Accepted k e =
+  put_ready_by (Err f) k e = no_change f c e
+  put_ready_by (Ok tt) k e =
       let plate = plate_accepted s (lengths_of l) _ k in
       put_whole plate.0 (ask-accepted s.size s.count (length l.log) a plate.1) _ refl e
 
@@ -68,11 +69,11 @@ put_ready s a l byte c e = put_ready_by s a l byte c (put_check s a (lengths_of 
 -- UNDO
 module _ (s : State) (l : Lent) (c : Change) (plate : PlateAccepted s (lengths_of l)) (some : 1 ≤ s.count) where
   undo_whole : (e : Entry) → (e.place < places s.size) → Fits s.size.reach e.pixel
-      → (u : Unpacked) → read_word s.size.reach (get_or l.pixels e.place 0) ≡ u
-      → undo_over s.size e u ≡ ToChange c → UndoReady s c l
+      → (u : Option Pixel) → read_word s.size.reach (get_or l.pixels e.place 0) ≡ u
+      → undo_over s.size e u ≡ Ok c → UndoReady s c l
   unfolding undo_over
-  undo_whole e inside fits Broken w q = no_change _ c q
-  undo_whole e inside fits (Whole old) w q =
+  undo_whole e inside fits None w q = no_change _ c q
+  undo_whole e inside fits (Some old) w q =
       let z = s.size in
       let i = e.place in
       let wide = plate.lawful.width_some in
@@ -95,18 +96,18 @@ module _ (s : State) (l : Lent) (c : Change) (plate : PlateAccepted s (lengths_o
         last_in = omega (arith, plate.count_in);
       })
 
-  undo_logged : (w : ℕ) (r : EntryRead) → read_entry s.size w ≡ r
-      → undo_entry r s.size l.pixels ≡ ToChange c → UndoReady s c l
+  undo_logged : (w : ℕ) (r : Option Entry) → read_entry s.size w ≡ r
+      → undo_entry r s.size l.pixels ≡ Ok c → UndoReady s c l
   unfolding undo_entry
-  undo_logged w Unreadable is q = no_change _ c q
-  undo_logged w (Logged e) is q = let h = entry_read s.size w e is in undo_whole e h.0 h.1 _ refl q
+  undo_logged w None is q = no_change _ c q
+  undo_logged w (Some e) is q = let h = entry_read s.size w e is in undo_whole e h.0 h.1 _ refl q
 
 undo_ready_by : (s : State) (l : Lent) (c : Change) (o : Outcome) → undo_check s (lengths_of l) ≡ o
-    → undo_read_by o s l.pixels l.log ≡ ToChange c
+    → undo_read_by o s l.pixels l.log ≡ Ok c
     → UndoReady s c l
 unfolding undo_read_by undo_check
-undo_ready_by s l c (Refused f) k q = no_change f c q
-undo_ready_by s l c Accepted k q =
+undo_ready_by s l c (Err f) k q = no_change f c q
+undo_ready_by s l c (Ok tt) k q =
     let plate = plate_accepted s (lengths_of l) _ k in
     undo_logged s l c plate.0 (some_accepted s plate.1) _ _ refl q
 

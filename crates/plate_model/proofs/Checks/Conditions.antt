@@ -1,5 +1,6 @@
 -- Each check of specs/Refusal.antt keeps to its row of the table: it refuses where the row's condition holds, and else says what
 -- comes next. The proofs go by what the numbers are, not by the tests that the checks are made of.
+use Rattle.std.specs.Prelude.{Option, Some, None}
 use mathlib.Core.Path.{◌≡◌, refl, sym, ◌∙◌}
 use mathlib.Core.Bool.{Bool, true, false}
 use mathlib.Core.Logic.{◌≢◌, ◌⊎◌, inl, inr, ⊎_elim}
@@ -12,8 +13,6 @@ use borrow.Author.Rules.{rules}
 use borrow.Author.Tests.{lt-ltb, le-ltb, le-leb, lt-leb, eq-eqb, ne_eqb}
 use Rattle.kernels_model.specs.declared.shape.Shape.{Shape}
 use Rattle.kernels_model.specs.declared.shape.Shape.TheVariants.{Box, Tent, Triple, Diamond, Hexagon, Octagon}
-use Rattle.kernels_model.specs.declared.shape.ShapeRead.{ShapeRead}
-use Rattle.kernels_model.specs.declared.shape.ShapeRead.TheVariants.{Known, Unknown}
 use Rattle.kernels_model.specs.Shape.{shape_of, top_under}
 use Rattle.kernels_model.specs.declared.lens.Lens.{Lens}
 use Rattle.kernels_model.specs.Lens.{opening_top, focal_top, focus_top, pitch_top, lawful_lens}
@@ -142,12 +141,12 @@ value_checks v =
     (λ h. passing (λ a b. omega arith) h (λ next. search tests))
 
 -- 6
-pub unknown_not : {P : Type 0} (s : Shape) → Unknown ≡ Known s → P
+pub unknown_not : {P : Type 0} (s : Shape) → None ≡ Some s → P
 unknown_not s e = let z : ◌≡◌ {A = ℕ} 0 1 = cc in absurd (omega arith)
 
 -- a number names a shape, or none where it is above 5
 pub shape_named : (n : ℕ)
-    → (ShapeAbove n × (shape_of n ≡ Unknown)) ⊎ ((n < shape_count) × ((s : Shape) × (shape_of n ≡ Known s)))
+    → (ShapeAbove n × (shape_of n ≡ None)) ⊎ ((n < shape_count) × ((s : Shape) × (shape_of n ≡ Some s)))
 shape_named zero = inr (omega arith, (Box, refl))
 shape_named (suc zero) = inr (omega arith, (Tent, refl))
 shape_named (suc (suc zero)) = inr (omega arith, (Triple, refl))
@@ -156,12 +155,12 @@ shape_named (suc (suc (suc (suc zero)))) = inr (omega arith, (Hexagon, refl))
 shape_named (suc (suc (suc (suc (suc zero))))) = inr (omega arith, (Octagon, refl))
 shape_named (suc (suc (suc (suc (suc (suc n)))))) = inl (omega arith, refl)
 
-shape_apart : (n : ℕ) → ShapeAbove n → shape_of n ≡ Known (known_shape (shape_of n)) → ⊥
+shape_apart : (n : ℕ) → ShapeAbove n → shape_of n ≡ Some (known_shape (shape_of n)) → ⊥
 shape_apart n a e =
     ⊎_elim (λ t. unknown_not (known_shape (shape_of n)) (sym t.1 ∙ e)) (λ t. omega (arith, t.0)) (shape_named n)
 
 pub shape_checks : (n : ℕ)
-    → Checks UnknownShape (ShapeAbove n) (shape_of n ≡ Known (known_shape (shape_of n))) (shape_check (shape_of n))
+    → Checks UnknownShape (ShapeAbove n) (shape_of n ≡ Some (known_shape (shape_of n))) (shape_check (shape_of n))
 unfolding shape_check
 shape_checks n =
     ⊎_elim
@@ -170,27 +169,27 @@ shape_checks n =
     (shape_named n)
 
 -- a shape as it was read
-pub named_checks : (s : ShapeRead) → Checks UnknownShape (s ≡ Unknown) (s ≡ Known (known_shape s)) (shape_check s)
+pub named_checks : (s : Option Shape) → Checks UnknownShape (s ≡ None) (s ≡ Some (known_shape s)) (shape_check s)
 unfolding shape_check
-named_checks Unknown = refusing (λ u k. unknown_not (known_shape Unknown) k) refl (λ next. refl)
-named_checks (Known s) = passing (λ u k. unknown_not s (sym u)) refl (λ next. refl)
+named_checks None = refusing (λ u k. unknown_not (known_shape None) k) refl (λ next. refl)
+named_checks (Some s) = passing (λ u k. unknown_not s (sym u)) refl (λ next. refl)
 
 -- 7
-pub radius_checks : (R : ℕ) (s : ShapeRead) (r : ℕ)
+pub radius_checks : (R : ℕ) (s : Option Shape) (r : ℕ)
     → Checks LargeRadius (RadiusAbove R s r) (¬ (RadiusAbove R s r)) (radius_check R s r)
 unfolding RadiusAbove radius_check refuse_if
-radius_checks R Unknown r = passing (λ a b. b a) (λ a. a) (λ next. refl)
-radius_checks R (Known s) r =
+radius_checks R None r = passing (λ a b. b a) (λ a. a) (λ next. refl)
+radius_checks R (Some s) r =
     by_lt (top_under s R) r
     (λ h. refusing (λ a b. b a) h (λ next. search tests))
     (λ h. passing (λ a b. b a) (λ a. omega arith) (λ next. search tests))
 
 -- the top of a shape that is read is not passed
-pub radius_under : (R : ℕ) (s : ShapeRead) (r : ℕ) → s ≡ Known (known_shape s) → ¬ (RadiusAbove R s r)
+pub radius_under : (R : ℕ) (s : Option Shape) (r : ℕ) → s ≡ Some (known_shape s) → ¬ (RadiusAbove R s r)
     → r ≤ top_under (known_shape s) R
 unfolding RadiusAbove
-radius_under R Unknown r e h = unknown_not (known_shape Unknown) e
-radius_under R (Known s) r e h = by_lt (top_under s R) r (λ l. absurd (h l)) (λ l. l)
+radius_under R None r e h = unknown_not (known_shape None) e
+radius_under R (Some s) r e h = by_lt (top_under s R) r (λ l. absurd (h l)) (λ l. l)
 
 -- 8
 pub full_checks : (n room : ℕ) → Checks LogFull (n ≡ room) (n ≢ room) (full_check n room)

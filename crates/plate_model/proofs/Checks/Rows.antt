@@ -1,4 +1,5 @@
 -- Answers by rows of the table of refusals, and checks that keep to a row.
+use Rattle.std.specs.Prelude.{Ok, Err}
 use mathlib.Core.Path.{◌≡◌, refl, ap, sym, subst, ◌∙◌}
 use mathlib.Core.Logic.{◌⊎◌, inl, inr, ⊎_elim}
 use mathlib.Core.List.{List, [], ◌∷◌, ◌++◌}
@@ -7,14 +8,14 @@ use native.Mathlib.Omega.{arith}
 use lib.Dec.{lit≤}
 use lib.ListN.{get_or}
 use Rattle.plate_model.specs.Refusal.{Refusal, Sizes, Lengths, LogCount, Place, Value, UnknownShape, LargeRadius, LogFull}
-use Rattle.plate_model.specs.Refusal.{LogEmpty, StoredWord, UnlawfulLens, Depth, DepthInside, Outcome, Accepted, Refused}
+use Rattle.plate_model.specs.Refusal.{LogEmpty, StoredWord, UnlawfulLens, Depth, DepthInside, Outcome}
 use Rattle.plate_model.specs.Refusal.{refusal_number, outcome_number}
 use Rattle.kernels_model.specs.Rows.{TableRow, row, NoneOf, FirstOf}
 use Rattle.kernels_model.proofs.Refusals.Rows.{none-accepted, accepted-none, same_answer, first_says, first_then}
 use Rattle.plate_model.specs.Table.{AnswersBy}
 use Rattle.plate_model.specs.RowsDecide.{RowsDecide}
 
-pub refused-not : {P : Type 0} (f : Refusal) → Refused f ≡ Accepted → P
+pub refused-not : {P : Type 0} (f : Refusal) → ◌≡◌ {A = Outcome} (Err f) (Ok tt) → P
 refused-not f e = let z : ◌≡◌ {A = ℕ} 0 1 = cc in absurd (omega arith)
 
 -- a refusal's number is not that of an accepted call
@@ -79,23 +80,23 @@ pub numbers_apart : (f g : Refusal) → refusal_number f ≡ refusal_number g �
 numbers_apart f g e = sym (refusal_at_lem f) ∙ ap refusal_at e ∙ refusal_at_lem g
 
 -- an outcome with a refusal's number is that refusal
-pub outcome_numbered : (o : Outcome) (f : Refusal) → outcome_number o ≡ refusal_number f → o ≡ Refused f
-outcome_numbered Accepted f e = absurd (omega (arith, refusal_some f, e))
-outcome_numbered (Refused g) f e = ap Refused (numbers_apart g f e)
+pub outcome_numbered : (o : Outcome) (f : Refusal) → outcome_number o ≡ refusal_number f → o ≡ Err f
+outcome_numbered (Ok tt) f e = absurd (omega (arith, refusal_some f, e))
+outcome_numbered (Err g) f e = ap Err (numbers_apart g f e)
 
 -- and one with number 0 is accepted
-pub accepted-numbered : (o : Outcome) → outcome_number o ≡ 0 → o ≡ Accepted
-accepted-numbered Accepted e = refl
-accepted-numbered (Refused f) e = absurd (omega (arith, refusal_some f, e))
+pub accepted-numbered : (o : Outcome) → outcome_number o ≡ 0 → o ≡ Ok tt
+accepted-numbered (Ok tt) e = refl
+accepted-numbered (Err f) e = absurd (omega (arith, refusal_some f, e))
 
 -- AN OUTCOME BY ROWS: the refusal of the first that applies, and accepted where none does
 abbrev pub OutcomeBy : List (TableRow Refusal) → Outcome → Type 0
-OutcomeBy rows o = FirstOf (λ f. o ≡ Refused f) (o ≡ Accepted) rows
+OutcomeBy rows o = FirstOf (λ f. o ≡ Err f) (o ≡ Ok tt) rows
 
 -- its number is by the rows
 pub number_by : (rows : List (TableRow Refusal)) (o : Outcome) → OutcomeBy rows o → AnswersBy rows (outcome_number o)
 number_by rows o =
-    first_says (λ f. o ≡ Refused f) (o ≡ Accepted) (λ f. outcome_number o ≡ refusal_number f) (outcome_number o ≡ 0) rows
+    first_says (λ f. o ≡ Err f) (o ≡ Ok tt) (λ f. outcome_number o ≡ refusal_number f) (outcome_number o ≡ 0) rows
     (λ f e. ap outcome_number e)
     (λ e. ap outcome_number e)
 
@@ -127,24 +128,24 @@ rows_decide =
 
 -- AN OUTCOME BY ROWS
 -- past the last row a call is accepted
-pub last_row : OutcomeBy [] Accepted
+pub last_row : OutcomeBy [] (Ok tt)
 unfolding FirstOf
 last_row = refl
 
 -- TWO LISTS OF CHECKS, one after the other
 abbrev pub and_then : Outcome → Outcome → Outcome
-and_then Accepted next = next
-and_then (Refused f) next = Refused f
+and_then (Ok tt) next = next
+and_then (Err f) next = Err f
 
 -- both accept where the two in a row do
-pub and_then_lem : (a next : Outcome) → and_then a next ≡ Accepted → (a ≡ Accepted) × (next ≡ Accepted)
-and_then_lem Accepted next e = (refl, e)
-and_then_lem (Refused f) next e = refused-not f e
+pub and_then_lem : (a next : Outcome) → and_then a next ≡ Ok tt → (a ≡ Ok tt) × (next ≡ Ok tt)
+and_then_lem (Ok tt) next e = (refl, e)
+and_then_lem (Err f) next e = refused-not f e
 
-pub answers_then : (rows more : List (TableRow Refusal)) (o p : Outcome) → OutcomeBy rows o → (o ≡ Accepted → OutcomeBy more p)
+pub answers_then : (rows more : List (TableRow Refusal)) (o p : Outcome) → OutcomeBy rows o → (o ≡ Ok tt → OutcomeBy more p)
     → OutcomeBy (rows ++ more) (and_then o p)
 answers_then rows more o p first rest =
-    first_then (λ f. o ≡ Refused f) (o ≡ Accepted) (λ f. and_then o p ≡ Refused f) (and_then o p ≡ Accepted) rows more
+    first_then (λ f. o ≡ Err f) (o ≡ Ok tt) (λ f. and_then o p ≡ Err f) (and_then o p ≡ Ok tt) rows more
     (λ f r. rw r)
     (λ a. rw a (rest a))
     first
@@ -154,22 +155,22 @@ answers_then rows more o p first rest =
 -- clear, it says what comes next
 pub record Checks (f : Refusal) (given clear : Type 0) (check : Outcome → Outcome) : Type 0 where
   pub apart : given → clear → ⊥
-  pub told : (given × ((next : Outcome) → check next ≡ Refused f)) ⊎ (clear × ((next : Outcome) → check next ≡ next))
+  pub told : (given × ((next : Outcome) → check next ≡ Err f)) ⊎ (clear × ((next : Outcome) → check next ≡ next))
 
 module _ {f : Refusal} {G C : Type 0} {check : Outcome → Outcome} where
-  pub refusing : (G → C → ⊥) → G → ((next : Outcome) → check next ≡ Refused f) → Checks f G C check
+  pub refusing : (G → C → ⊥) → G → ((next : Outcome) → check next ≡ Err f) → Checks f G C check
   refusing apart g e = record { apart = apart; told = inl (g, e) }
 
   pub passing : (G → C → ⊥) → C → ((next : Outcome) → check next ≡ next) → Checks f G C check
   passing apart c e = record { apart = apart; told = inr (c, e) }
 
   pub by_check : {P : Type 0} → Checks f G C check
-      → (G → ((next : Outcome) → check next ≡ Refused f) → P)
+      → (G → ((next : Outcome) → check next ≡ Err f) → P)
       → (C → ((next : Outcome) → check next ≡ next) → P) → P
   by_check k p q = ⊎_elim (λ a. p a.0 a.1) (λ a. q a.0 a.1) k.told
 
   -- where it accepts, something is clear, and what comes next accepts
-  pub check_passed : Checks f G C check → (next : Outcome) → check next ≡ Accepted → C × (next ≡ Accepted)
+  pub check_passed : Checks f G C check → (next : Outcome) → check next ≡ Ok tt → C × (next ≡ Ok tt)
   check_passed k next e = by_check k (λ g r. refused-not f (sym (r next) ∙ e)) (λ c r. (c, sym (r next) ∙ e))
 
   pub check_passes : Checks f G C check → (next : Outcome) → C → check next ≡ next

@@ -1,5 +1,6 @@
 -- DEMAND 1: every call answers the first refusal of its rows whose condition holds, is accepted where none does, and leaves
 -- everything as it was where it is refused.
+use Rattle.std.specs.Prelude.{Result, Ok, Err}
 use mathlib.Core.Path.{◌≡◌, refl, ap, sym, subst, ◌∙◌}
 use mathlib.Core.Logic.{◌⊎◌, inl, inr, ⊎_elim}
 use mathlib.Core.List.{List, [], ◌∷◌}
@@ -13,12 +14,12 @@ use Rattle.plate_model.specs.Layout.{Size, size_from}
 use Rattle.plate_model.specs.Lent.{State, state_of, Lent, lengths_of, Ask, ask, Inputs, Views, Canvas}
 use Rattle.plate_model.specs.Word.{read_word, read_entry}
 use Rattle.plate_model.specs.Refusal.{Refusal, Sizes, Lengths, LogCount, Place, Value, UnknownShape, LargeRadius, LogFull}
-use Rattle.plate_model.specs.Refusal.{StoredWord, UnlawfulLens, Depth, DepthInside, Outcome, Accepted, Refused}
+use Rattle.plate_model.specs.Refusal.{StoredWord, UnlawfulLens, Depth, DepthInside, Outcome}
 use Rattle.plate_model.specs.Refusal.{refusal_number, outcome_number, open_check, plate_check, ask_check, put_check, undo_check}
 use Rattle.plate_model.specs.Refusal.{empty_check, fill_first, layer_check, fill_check, views_check, total_check, show_check}
 use Rattle.plate_model.specs.Refusal.{sizes_check, canvas_check, kept_check, show_kept_check}
 use Rattle.plate_model.specs.Asked.{asked_place}
-use Rattle.plate_model.specs.Change.{Change, ChangeRead, ToChange, NoChange, put_over, put_read_by, put_read, undo_over}
+use Rattle.plate_model.specs.Change.{Change, put_over, put_read_by, put_read, undo_over}
 use Rattle.plate_model.specs.Change.{undo_entry, undo_read_by, undo_read}
 use Rattle.plate_model.specs.Calls.{Left, refused, Shown, shows, answer_of, open_by, open_call, put_by, put_call, undo_by}
 use Rattle.plate_model.specs.Calls.{undo_call, fill_by, fill_call, show_by, show_call, changed}
@@ -44,12 +45,12 @@ use Rattle.plate_model.proofs.Words.Stored.{WordCases, word_cases, EntryCases, e
 -- a call that goes on by what it has heard, from its check or from what it read: its number is that of the outcome that it heard,
 -- and where that is a refusal it is the refused call
 module _ {R A : Type 0} (heard : R → Outcome) (number_in : A → ℕ) (refused_as : Refusal → A) (by : R → A)
-    (accepts : (r : R) → heard r ≡ Accepted → number_in (by r) ≡ 0)
-    (refuses : (r : R) (f : Refusal) → heard r ≡ Refused f → by r ≡ refused_as f)
+    (accepts : (r : R) → heard r ≡ Ok tt → number_in (by r) ≡ 0)
+    (refuses : (r : R) (f : Refusal) → heard r ≡ Err f → by r ≡ refused_as f)
     (tells : (f : Refusal) → number_in (refused_as f) ≡ refusal_number f) where
   number_as : (r : R) (o : Outcome) → heard r ≡ o → number_in (by r) ≡ outcome_number o
-  number_as r Accepted e = accepts r e
-  number_as r (Refused f) e = ap number_in (refuses r f e) ∙ tells f
+  number_as r (Ok tt) e = accepts r e
+  number_as r (Err f) e = ap number_in (refuses r f e) ∙ tells f
 
   number_is : (r : R) → number_in (by r) ≡ outcome_number (heard r)
   number_is r = number_as r (heard r) refl
@@ -62,8 +63,8 @@ module _ {R A : Type 0} (heard : R → Outcome) (number_in : A → ℕ) (refused
 
 -- a call of planes, pixels and log
 module _ {R : Type 0} (heard : R → Outcome) (s : State) (l : Lent) (by : R → Left)
-    (accepts : (r : R) → heard r ≡ Accepted → (by r).answer.number ≡ 0)
-    (refuses : (r : R) (f : Refusal) → heard r ≡ Refused f → by r ≡ refused f s l) where
+    (accepts : (r : R) → heard r ≡ Ok tt → (by r).answer.number ≡ 0)
+    (refuses : (r : R) (f : Refusal) → heard r ≡ Err f → by r ≡ refused f s l) where
   goes_by : (rows : List (TableRow Refusal)) (r : R) → OutcomeBy rows (heard r) → GoesBy rows s l (by r)
   goes_by = call_by heard (λ (a : Left). a.answer.number) (λ f. refused f s l) by accepts refuses (λ f. refl)
 
@@ -72,21 +73,21 @@ open_goes : (z : Size) (l : Lent) → GoesBy (open_rows z l) (state_of (size_fro
 unfolding open_call open_by open_check
 open_goes z l =
     goes_by (λ o. o) (state_of (size_from 0 0 0) 0) l (λ o. open_by o z l) (λ o e. rw e) (λ o f e. rw e) (open_rows z l) _
-    (first_check (sizes_checks z) _ _ (λ _. first_check (lent_checks z (lengths_of l)) [] Accepted (λ _. last_row)))
+    (first_check (sizes_checks z) _ _ (λ _. first_check (lent_checks z (lengths_of l)) [] (Ok tt) (λ _. last_row)))
 
 -- WHAT PUT AND UNDO READ
 -- the outcome of what was read
-abbrev outcome_of : ChangeRead → Outcome
-outcome_of (ToChange c) = Accepted
-outcome_of (NoChange f) = Refused f
+abbrev outcome_of : Result Change Refusal → Outcome
+outcome_of (Ok c) = (Ok tt)
+outcome_of (Err f) = Err f
 
-change_read : (r : ChangeRead) → outcome_of r ≡ Accepted → (c : Change) × (r ≡ ToChange c)
-change_read (ToChange c) e = (c, refl)
-change_read (NoChange f) e = refused-not f e
+change_read : (r : Result Change Refusal) → outcome_of r ≡ Ok tt → (c : Change) × (r ≡ Ok c)
+change_read (Ok c) e = (c, refl)
+change_read (Err f) e = refused-not f e
 
-refusal_read : (r : ChangeRead) (f : Refusal) → outcome_of r ≡ Refused f → r ≡ NoChange f
-refusal_read (ToChange c) f e = refused-not f (sym e)
-refusal_read (NoChange g) f e = let same : g ≡ f = cc in rw same
+refusal_read : (r : Result Change Refusal) (f : Refusal) → outcome_of r ≡ Err f → r ≡ Err f
+refusal_read (Ok c) f e = refused-not f (sym e)
+refusal_read (Err g) f e = let same : g ≡ f = cc in rw same
 
 -- 1 2 3, and what is known where they pass
 plate_first : (s : State) (l : Lent) (rows : List (TableRow Refusal)) (next : Outcome)
@@ -105,15 +106,15 @@ put_outcome : (o : Outcome) (z : Size) (a : Ask) (pixels : List ℕ)
     → outcome_of (put_read_by o z a pixels)
     ≡ and_then o (outcome_of (put_over (read_word z.reach (get_or pixels (asked_place z a) 0)) z a))
 unfolding put_read_by
-put_outcome Accepted z a pixels = refl
-put_outcome (Refused f) z a pixels = refl
+put_outcome (Ok tt) z a pixels = refl
+put_outcome (Err f) z a pixels = refl
 
 undo_outcome : (o : Outcome) (s : State) (pixels log : List ℕ)
     → outcome_of (undo_read_by o s pixels log)
     ≡ and_then o (outcome_of (undo_entry (read_entry s.size (get_or log (s.count - 1) 0)) s.size pixels))
 unfolding undo_read_by
-undo_outcome Accepted s pixels log = refl
-undo_outcome (Refused f) s pixels log = refl
+undo_outcome (Ok tt) s pixels log = refl
+undo_outcome (Err f) s pixels log = refl
 
 -- 10 of a put
 put_stored : (z : Size) (a : Ask) (w : ℕ) → WordCases z.reach w
@@ -151,7 +152,7 @@ ask_first z count room x y v a n r =
     first_check (value_checks v) _ _ (λ _.
     first_check (shape_checks n) _ _ (λ _.
     first_check (radius_checks z.reach (shape_of n) r) _ _ (λ _.
-    first_check (full_checks count room) [] Accepted (λ _. last_row)))))
+    first_check (full_checks count room) [] (Ok tt) (λ _. last_row)))))
 
 -- what it reads goes by the rows
 put_reads : (s : State) (x y v a n r : ℕ) (l : Lent)
@@ -177,10 +178,10 @@ undo_reads : (s : State) (l : Lent) → OutcomeBy (undo_rows s l) (outcome_of (u
 unfolding undo_read undo_check
 undo_reads s l =
     let z = s.size in
-    let check = plate_check s (lengths_of l) (empty_check s.count Accepted) in
+    let check = plate_check s (lengths_of l) (empty_check s.count (Ok tt)) in
     rw (undo_outcome check s l.pixels l.log)
     (answers_then _ _ check _
-    (plate_first s l _ _ (λ _. first_check (empty_checks s.count) [] Accepted (λ _. last_row)))
+    (plate_first s l _ _ (λ _. first_check (empty_checks s.count) [] (Ok tt) (λ _. last_row)))
     (λ e. undo_stored z _ l.pixels
     (entry_cases z (get_or l.log (s.count - 1) 0) (plate_accepted s (lengths_of l) _ e).0.lawful)))
 
@@ -207,7 +208,7 @@ layer_first o k f =
     first_check (shape_checks k) _ _ (λ _.
     first_check (lens_checks o) _ _ (λ _.
     first_check (above_checks Depth depth_top f.depths) _ _ (λ _.
-    first_check (inside_checks o f.depths) [] Accepted (λ _. last_row)))))
+    first_check (inside_checks o f.depths) [] (Ok tt) (λ _. last_row)))))
 
 fill_goes : (s : State) (o : Lens) (k : ℕ) (f : Inputs) (l : Lent) → GoesBy (fill_rows s o k f l) s l (fill_call s o k f l)
 unfolding fill_call fill_by fill_check fill_first InputsWrong
@@ -227,12 +228,12 @@ unfolding show_check views_check ViewsWrong
 show_first s planes v =
     let z = s.size in
     let lengths = views_checks z (length planes) (length v.scratch) (length v.values) (length v.mattes) in
-    first_check (sizes_checks z) _ _ (λ _. first_check lengths [] Accepted (λ _. last_row))
+    first_check (sizes_checks z) _ _ (λ _. first_check lengths [] (Ok tt) (λ _. last_row))
 
 show_goes : (s : State) (planes : List ℕ) (v : Views) → ShowGoesBy (show_rows s planes v) s v (show_call s planes v)
 unfolding show_call show_by
 show_goes s planes v =
-    call_by (λ o. o) (λ (a : Shown). a.answer.number) (λ f. shows (answer_of (Refused f) 0 s) v) (λ o. show_by o s planes v)
+    call_by (λ o. o) (λ (a : Shown). a.answer.number) (λ f. shows (answer_of (Err f) 0 s) v) (λ o. show_by o s planes v)
     (λ o e. rw e) (λ o f e. rw e) (λ f. refl) (show_rows s planes v) _ (show_first s planes v)
 
 -- THE SECOND FORMS
@@ -247,7 +248,7 @@ also_checked {C} {D} {check} z k L rows next first =
     (λ lawful. by_check k wrong
     (λ right r. subst (λ (o : Outcome). OutcomeBy (row Lengths (L ⊎ C) ∷ rows) o) (sym (r next)) (past lawful right first)))
   where
-    wrong : C → ((o : Outcome) → check o ≡ Refused Lengths) → OutcomeBy (row Lengths (L ⊎ C) ∷ rows) (check next)
+    wrong : C → ((o : Outcome) → check o ≡ Err Lengths) → OutcomeBy (row Lengths (L ⊎ C) ∷ rows) (check next)
     wrong c r = inl (inr c, r next)
 
     after : D → OutcomeBy (row Lengths L ∷ rows) next → OutcomeBy (row Lengths (L ⊎ C) ∷ rows) next
@@ -260,13 +261,13 @@ also_checked {C} {D} {check} z k L rows next first =
     past lawful right (inr a) = after right a.1
 
 -- what is read where sums and pictures pass
-kept_outcome : (o : Outcome) (r : ChangeRead) → outcome_of (kept_read o r) ≡ and_then o (outcome_of r)
+kept_outcome : (o : Outcome) (r : Result Change Refusal) → outcome_of (kept_read o r) ≡ and_then o (outcome_of r)
 unfolding kept_read
-kept_outcome Accepted r = refl
-kept_outcome (Refused f) r = refl
+kept_outcome (Ok tt) r = refl
+kept_outcome (Err f) r = refl
 
 -- the second form of put or undo reads by the rows of the first, and 2 comes from sums and pictures too
-kept_reads : (z : Size) (k : Canvas) (L : Type 0) (rows : List (TableRow Refusal)) (r : ChangeRead)
+kept_reads : (z : Size) (k : Canvas) (L : Type 0) (rows : List (TableRow Refusal)) (r : Result Change Refusal)
     → OutcomeBy (row Sizes (SizesOutside z) ∷ row Lengths L ∷ rows) (outcome_of r)
     → OutcomeBy (row Sizes (SizesOutside z) ∷ row Lengths (L ⊎ CanvasWrong z k) ∷ rows) (outcome_of (kept_read (canvas_first z k) r))
 unfolding kept_check canvas_check CanvasWrong
@@ -275,7 +276,7 @@ kept_reads z k L rows r first =
     rw (
       kept_outcome (canvas_first z k) r,
       ← check_before (sizes_checks z) (canvas_check z (length k.sums) (length k.values) (length k.mattes)) (outcome_of r),
-      ← check_before lengths Accepted (outcome_of r),
+      ← check_before lengths (Ok tt) (outcome_of r),
     )
     (also_checked z lengths L rows (outcome_of r) first)
 
@@ -283,7 +284,7 @@ put_kept_goes : (s : State) (x y v a n r : ℕ) (l : Lent) (k : Canvas)
     → KeptGoesBy (put_kept_rows s x y v n r l k) s l k (put_kept_call s (ask x y v a n r) l k)
 unfolding put_kept_call put_kept_by put_by changed canvas_by
 put_kept_goes s x y v a n r l k =
-    call_by outcome_of (λ (c : Refreshed). c.call.answer.number) (λ f. leaves_kept (answer_of (Refused f) 0 s) l k)
+    call_by outcome_of (λ (c : Refreshed). c.call.answer.number) (λ f. leaves_kept (answer_of (Err f) 0 s) l k)
     (λ c. put_kept_by c s l k) (λ c e. rw (change_read c e).1) (λ c f e. rw (refusal_read c f e)) (λ f. refl)
     (put_kept_rows s x y v n r l k)
     (kept_read (canvas_first s.size k) (put_read s (ask x y v a n r) (lengths_of l) l.pixels))
@@ -292,7 +293,7 @@ put_kept_goes s x y v a n r l k =
 undo_kept_goes : (s : State) (l : Lent) (k : Canvas) → KeptGoesBy (undo_kept_rows s l k) s l k (undo_kept_call s l k)
 unfolding undo_kept_call undo_kept_by undo_by changed canvas_by
 undo_kept_goes s l k =
-    call_by outcome_of (λ (c : Refreshed). c.call.answer.number) (λ f. leaves_kept (answer_of (Refused f) 0 s) l k)
+    call_by outcome_of (λ (c : Refreshed). c.call.answer.number) (λ f. leaves_kept (answer_of (Err f) 0 s) l k)
     (λ r. undo_kept_by r s l k) (λ r e. rw (change_read r e).1) (λ r f e. rw (refusal_read r f e)) (λ f. refl) (undo_kept_rows s l k)
     (kept_read (canvas_first s.size k) (undo_read s (lengths_of l) l.pixels l.log))
     (kept_reads s.size k _ _ _ (undo_reads s l))
@@ -302,7 +303,7 @@ show_kept_goes : (s : State) (planes : List ℕ) (v : Views) (sums : List ℕ)
 unfolding show_kept_call show_kept_by show_kept_check show_by sums_by
 show_kept_goes s planes v sums =
     call_by (λ o. o) (λ (a : ShownKept). a.call.answer.number)
-    (λ f. shows_kept (answer_of (Refused f) 0 s) v sums) (λ o. show_kept_by o s planes v sums)
+    (λ f. shows_kept (answer_of (Err f) 0 s) v sums) (λ o. show_kept_by o s planes v sums)
     (λ o e. rw e) (λ o f e. rw e) (λ f. refl) (show_kept_rows s planes v sums) _
     (also_checked s.size (length_checks (length sums) _) _ [] _ (show_first s planes v))
 
@@ -311,10 +312,10 @@ total_goes : (s : State) (planes scratch : List ℕ)
     → TotalGoesBy (total_rows s planes scratch) s scratch (total_call s planes scratch)
 unfolding total_call total_by total_check TotalWrong
 total_goes s planes scratch =
-    call_by (λ o. o) (λ (a : Totalled). a.answer.number) (λ f. totalled (no_totals (answer_of (Refused f) 0 s)) scratch)
+    call_by (λ o. o) (λ (a : Totalled). a.answer.number) (λ f. totalled (no_totals (answer_of (Err f) 0 s)) scratch)
     (λ o. total_by o s planes scratch) (λ o e. rw e) (λ o f e. rw e) (λ f. refl) (total_rows s planes scratch) _
     (first_check (sizes_checks s.size) _ _ (λ _.
-    first_check (total_checks s.size (length planes) (length scratch)) [] Accepted (λ _. last_row)))
+    first_check (total_checks s.size (length planes) (length scratch)) [] (Ok tt) (λ _. last_row)))
 
 pub demand_1 : Demand1
 demand_1 =
@@ -347,4 +348,4 @@ orders =
 -- PLATES THERE ARE
 pub open_accepts : OpenAccepts
 unfolding open_check
-open_accepts z l lawful lent = sizes_pass z _ lawful ∙ lent_pass z (lengths_of l) Accepted lent
+open_accepts z l lawful lent = sizes_pass z _ lawful ∙ lent_pass z (lengths_of l) (Ok tt) lent

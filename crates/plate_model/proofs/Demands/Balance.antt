@@ -1,6 +1,7 @@
 -- Light is neither made nor lost: every kernel lies whole inside the padded plane, so what a plate holds in all is what its
 -- pixels
 -- had.
+use Rattle.std.specs.Prelude.{Ok}
 use mathlib.Core.Path.{◌≡◌, ap, ◌∙◌}
 use mathlib.Core.List.{List}
 use Prim.Native.Nat.{ℕ, ◌+◌, ◌*◌, ◌/◌, ◌%◌, ◌^◌, ◌≤◌, ◌<◌}
@@ -16,7 +17,7 @@ use Rattle.plate_model.specs.Layout.{Size, padded, places, column_of, row_of}
 use Rattle.plate_model.specs.Lent.{state_of}
 use Rattle.plate_model.specs.Word.{Pixel, Entry}
 use Rattle.plate_model.specs.Kernel.{weight_of}
-use Rattle.plate_model.specs.Refusal.{Accepted, total_check}
+use Rattle.plate_model.specs.Refusal.{total_check}
 use Rattle.kernels_model.specs.Listed.{zeros}
 use Rattle.plate_model.specs.Calls.{answer_of}
 use Rattle.plate_model.specs.Plain.{pixel_at, light_of, matte_of, grid_cell}
@@ -130,15 +131,15 @@ module _ (z : Size) (room : ℕ) (planes : List ℕ) (grid : List Pixel) (pile :
 
   -- it is refused for its scratch alone
   accepts : (scratch : List ℕ) → length scratch ≡ scratch_planes * padded z
-      → total_check z (length planes) (length scratch) ≡ Accepted
+      → total_check z (length planes) (length scratch) ≡ Ok tt
   unfolding total_check
   accepts scratch e =
       sizes_pass z _ kept.lawful
-      ∙ check_passes (total_checks z (length planes) (length scratch)) Accepted (kept.cells_count, e)
+      ∙ check_passes (total_checks z (length planes) (length scratch)) (Ok tt) (kept.cells_count, e)
 
   mirrored_total : (scratch : List ℕ) → length scratch ≡ scratch_planes * padded z
       → total_call (state_of z (length pile)) planes scratch
-      ≡ totalled (totals_of (answer_of Accepted 0 (state_of z (length pile))) (had_by z grid matte_of) (had_by z grid light_of))
+      ≡ totalled (totals_of (answer_of (Ok tt) 0 (state_of z (length pile))) (had_by z grid matte_of) (had_by z grid light_of))
       (zeros (length scratch))
   unfolding total_call total_by
   mirrored_total scratch e = rw (accepts scratch e, matte_held, light_held)

@@ -1,5 +1,6 @@
 -- DEMAND 3: for every accepted open and every list of calls the plate reports what the notebook reports and holds what it
 -- holds. DEMAND 2: whatever calls it had, what it shows is plain spreading.
+use Rattle.std.specs.Prelude.{Result, Ok, Err}
 use mathlib.Core.Path.{◌≡◌, refl, ap, ◌∙◌}
 use native.Mathlib.Omega.{arith}
 use mathlib.Core.List.{List, [], ◌∷◌, ◌++◌}
@@ -9,9 +10,8 @@ use lib.ListN.{get_or, length, replicate}
 use Rattle.kernels_model.specs.Rounding.{shown_value, shown_matte}
 use Rattle.plate_model.specs.Layout.{Size, padded, places, sums_in_all}
 use Rattle.plate_model.specs.Word.{Pixel, empty, Entry}
-use Rattle.plate_model.specs.Refusal.{Refusal, Lengths, Outcome, Accepted, Refused, refusal_number, views_check, open_check}
+use Rattle.plate_model.specs.Refusal.{Refusal, Lengths, Outcome, refusal_number, views_check, open_check}
 use Rattle.plate_model.specs.Refusal.{show_check, kept_check, show_kept_check}
-use Rattle.plate_model.specs.Change.{ChangeRead, NoChange}
 use Rattle.plate_model.specs.Lent.{state_of, Lent, lengths_of, Views, Canvas, Ask, ask, inputs}
 use Rattle.kernels_model.specs.Listed.{zeros, list_to}
 use Rattle.plate_model.specs.Calls.{Left, refused, answer_of, put_by, put_call, undo_by, undo_call, sum_at, shown, show_by}
@@ -35,6 +35,7 @@ use Rattle.plate_model.proofs.Demands.Mirror.{undo_agrees}
 use Rattle.plate_model.proofs.Demands.Fills.{fill_agrees, open_kept, open_mirror}
 use Rattle.plate_model.specs.Fixed.{planes_in_all}
 use Rattle.kernels_model.specs.Fixed.{planes_each}
+use Rattle.plate_model.specs.declared.change.Change.{Change}
 
 codes_small : (bs : List Byte) (i : ℕ) → get_or (codes bs) i 0 < 256
 codes_small [] i = lit< tt
@@ -74,10 +75,10 @@ module _ (z : Size) (room : ℕ) (planes : List ℕ) (grid : List Pixel) (pile :
       (shown_to (mirror z room planes grid pile) (show_by o (state_of z (length pile)) planes v))
       (book_show_by o (book_of z room grid pile))
   unfolding show_by book_show_by seen_by
-  show_by_fact v Accepted =
+  show_by_fact v (Ok tt) =
       agree_still z room planes grid pile kept _ _
       (λ j. record { number = 0; marks = 0; pictures = both (values_plain j) (mattes_plain j) })
-  show_by_fact v (Refused f) = agree_still z room planes grid pile kept _ _ (seen_refused (refusal_number f) v (refusal_some f))
+  show_by_fact v (Err f) = agree_still z room planes grid pile kept _ _ (seen_refused (refusal_number f) v (refusal_some f))
 
   -- a plate of its own calls is refused for its views alone
   pub show_checked : (v : Views)
@@ -95,9 +96,9 @@ module _ (z : Size) (room : ℕ) (planes : List ℕ) (grid : List Pixel) (pile :
   show_agrees v =
       rw (show_checked v) (show_by_fact v (views_check z (length v.scratch) (length v.values) (length v.mattes)))
 
-  show_kept : (v : Views) → views_check z (length v.scratch) (length v.values) (length v.mattes) ≡ Accepted
+  show_kept : (v : Views) → views_check z (length v.scratch) (length v.values) (length v.mattes) ≡ Ok tt
       → show_call (state_of z (length pile)) planes v
-      ≡ shown (answer_of Accepted 0 (state_of z (length pile))) (zeros (length v.scratch)) (plain_values z grid)
+      ≡ shown (answer_of (Ok tt) 0 (state_of z (length pile))) (zeros (length v.scratch)) (plain_values z grid)
       (plain_mattes z grid)
   unfolding show_call show_by
   show_kept v e = rw (show_checked v, e, values_plain, mattes_plain)
@@ -109,13 +110,13 @@ module _ (z : Size) (room : ℕ) (planes : List ℕ) (grid : List Pixel) (pile :
   canvas_checked k = sizes_pass z _ kept.lawful
 
   -- a second form is the first, or refused for them
-  kept_agrees : (by : ChangeRead → Left)
-      → ((f : Refusal) → by (NoChange f) ≡ refused f (state_of z (length pile)) (held_by room planes grid pile))
-      → (o : Outcome) (r : ChangeRead) (t : BookLeft) → Agree z room (step_of (by r)) t
+  kept_agrees : (by : Result Change Refusal → Left)
+      → ((f : Refusal) → by (Err f) ≡ refused f (state_of z (length pile)) (held_by room planes grid pile))
+      → (o : Outcome) (r : Result Change Refusal) (t : BookLeft) → Agree z room (step_of (by r)) t
       → Agree z room (step_of (by (kept_read o r))) (book_kept o (book_of z room grid pile) t)
   unfolding kept_read book_kept
-  kept_agrees by refuses Accepted r t first = first
-  kept_agrees by refuses (Refused f) r t first = rw (refuses f) (agree_refused z room planes grid pile kept f)
+  kept_agrees by refuses (Ok tt) r t first = first
+  kept_agrees by refuses (Err f) r t first = rw (refuses f) (agree_refused z room planes grid pile kept f)
 
   pub put_kept_agrees : (a : Ask) → a.opacity < 256 → (k : Canvas)
       → Agree z room
@@ -145,8 +146,8 @@ module _ (z : Size) (room : ℕ) (planes : List ℕ) (grid : List Pixel) (pile :
   show_kept_agrees v sums =
       rw (sizes_pass z _ kept.lawful, show_checked v)
       (by_check (length_checks (length sums) (sums_in_all z))
-      (λ wrong r. rw (r _, r Accepted) (unfold book_show_by in (show_by_fact v (Refused Lengths))))
-      (λ right r. rw (r _, r Accepted)
+      (λ wrong r. rw (r _, r (Ok tt)) (unfold book_show_by in (show_by_fact v (Err Lengths))))
+      (λ right r. rw (r _, r (Ok tt))
       (show_by_fact v (views_check z (length v.scratch) (length v.values) (length v.mattes)))))
 
   -- ONE CALL
@@ -212,7 +213,7 @@ lists_from (c ∷ cs) z room planes grid pile kept =
     }
 
 -- and so from every accepted open
-pub opened : (z : Size) (l : Lent) (calls : List Call) → open_check z (lengths_of l) ≡ Accepted
+pub opened : (z : Size) (l : Lent) (calls : List Call) → open_check z (lengths_of l) ≡ Ok tt
     → Followed (length l.log) calls (left_by (open_call z l)) (open_book z (length l.log))
 opened z l calls e =
     rw (open_mirror z l e)

@@ -1,4 +1,5 @@
 -- Fill keeps the invariant and reports what the notebook reports; an accepted open makes it hold.
+use Rattle.std.specs.Prelude.{Ok, Err}
 use mathlib.Core.Path.{◌≡◌, refl, ap, sym, ◌∙◌}
 use mathlib.Core.List.{List, [], ◌∷◌, map}
 use Prim.Native.Nat.{ℕ, ◌+◌, ◌%◌, ◌^◌, ◌≤◌, ◌<◌, min}
@@ -13,7 +14,7 @@ use Rattle.kernels_model.proofs.Numbers.Choices.{same_mul}
 use Rattle.kernels_model.proofs.Sums.FiniteSums.{sum_ext, sum_ext_lt, sum-zero}
 use Rattle.plate_model.specs.Layout.{Size, cell, places, column_of, row_of}
 use Rattle.plate_model.specs.Word.{Pixel, empty, word_of, Entry}
-use Rattle.plate_model.specs.Refusal.{Outcome, Accepted, Refused, inputs_check, layer_check, open_check, fill_check, fill_first}
+use Rattle.plate_model.specs.Refusal.{Outcome, inputs_check, layer_check, open_check, fill_check, fill_first}
 use Rattle.plate_model.specs.Lent.{state_of, Lent, lent, lengths_of, Inputs}
 use Rattle.plate_model.specs.Marks.{in_both, pixel_marks, lay_grid, on_cell}
 use Rattle.kernels_model.specs.Listed.{zeros, list_to}
@@ -39,7 +40,7 @@ empty_fits R = record { value_fits = lit≤ tt; opacity_fits = lit< tt; radius_f
 
 -- FILL
 -- a filled pixel is lawful
-filled_fits : (z : Size) (o : Lens) (n : ℕ) (f : Inputs) → layer_check o n f ≡ Accepted
+filled_fits : (z : Size) (o : Lens) (n : ℕ) (f : Inputs) → layer_check o n f ≡ Ok tt
     → ((i : ℕ) → get_or f.opacities i 0 < 256)
     → (i : ℕ) → Fits z.reach (filled z o (known_shape (shape_of n)) f i)
 unfolding filled
@@ -65,10 +66,10 @@ laid_cell z g m k h =
 
 module _ (z : Size) (room : ℕ) (planes : List ℕ) (grid : List Pixel) (pile : List Entry)
     (kept : Mirrored z room planes grid pile) where
-  fill_done : (o : Lens) (n : ℕ) (f : Inputs) → ((i : ℕ) → get_or f.opacities i 0 < 256) → layer_check o n f ≡ Accepted
+  fill_done : (o : Lens) (n : ℕ) (f : Inputs) → ((i : ℕ) → get_or f.opacities i 0 < 256) → layer_check o n f ≡ Ok tt
       → Agree z room
-      (step_of (fill_by Accepted (state_of z (length pile)) o n f (held_by room planes grid pile)))
-      (book_fill_by Accepted (book_of z room grid pile) o n f)
+      (step_of (fill_by (Ok tt) (state_of z (length pile)) o n f (held_by room planes grid pile)))
+      (book_fill_by (Ok tt) (book_of z room grid pile) o n f)
   unfolding fill_by book_fill_by log_by PileFits
   fill_done o n f bytes e =
       let pixel = filled z o (known_shape (shape_of n)) f in
@@ -103,8 +104,8 @@ module _ (z : Size) (room : ℕ) (planes : List ℕ) (grid : List Pixel) (pile :
       → Agree z room
       (step_of (fill_by c (state_of z (length pile)) o n f (held_by room planes grid pile)))
       (book_fill_by c (book_of z room grid pile) o n f)
-  fill_by_fact o n f bytes Accepted e = fill_done o n f bytes (check_passed (inputs_checks z _ _ _) (layer_check o n f) e).1
-  fill_by_fact o n f bytes (Refused g) e = unfold fill_by book_fill_by in (agree_refused z room planes grid pile kept g)
+  fill_by_fact o n f bytes (Ok tt) e = fill_done o n f bytes (check_passed (inputs_checks z _ _ _) (layer_check o n f) e).1
+  fill_by_fact o n f bytes (Err g) e = unfold fill_by book_fill_by in (agree_refused z room planes grid pile kept g)
 
   fill_checks : (o : Lens) (n : ℕ) (f : Inputs)
       → fill_check (state_of z (length pile)) o n f (lengths_of (held_by room planes grid pile))
@@ -150,7 +151,7 @@ open_cell z m k =
     ∙ sym (ap (λ (n : ℕ). n % 2 ^ 64)
     (sum_ext _ (λ i. 0) (λ i. rw (get_or_same (places z) empty i) (empty_lays z k i)) (places z) ∙ sum-zero (places z)))
 
-pub open_kept : (z : Size) (l : Lent) → open_check z (lengths_of l) ≡ Accepted
+pub open_kept : (z : Size) (l : Lent) → open_check z (lengths_of l) ≡ Ok tt
     → Mirrored z (length l.log) (zeros (length l.planes)) (replicate (places z) empty) []
 unfolding open_check PileFits
 open_kept z l e =
@@ -167,7 +168,7 @@ open_kept z l e =
       room_top = q2.0.log_top_fact;
     }
 
-pub open_mirror : (z : Size) (l : Lent) → open_check z (lengths_of l) ≡ Accepted
+pub open_mirror : (z : Size) (l : Lent) → open_check z (lengths_of l) ≡ Ok tt
     → left_by (open_call z l) ≡ mirror z (length l.log) (zeros (length l.planes)) (replicate (places z) empty) []
 unfolding open_call open_by log_by open_check
 open_mirror z l e =

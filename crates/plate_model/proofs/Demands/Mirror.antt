@@ -1,4 +1,5 @@
 -- The invariant of a list of calls: the plate mirrors the notebook. Put and undo keep it, and report what the notebook reports.
+use Rattle.std.specs.Prelude.{Ok, Err}
 use mathlib.Core.Path.{◌≡◌, refl, ap, sym, ◌∙◌}
 use mathlib.Core.List.{List, [], ◌∷◌, map}
 use Prim.Native.Nat.{ℕ, zero, suc, ◌+◌, ◌*◌, ◌-◌, ◌≤◌, ◌<◌}
@@ -10,7 +11,7 @@ use Rattle.kernels_model.proofs.Numbers.Choices.{by_lt}
 use Rattle.kernels_model.proofs.Sums.FiniteSums.{sum_ext_lt}
 use Rattle.plate_model.specs.Layout.{Size, padded, places}
 use Rattle.plate_model.specs.Word.{Pixel, word_of, Entry, logged_as}
-use Rattle.plate_model.specs.Refusal.{Refusal, LogEmpty, Outcome, Accepted, Refused, refuse_if, count_check, empty_check}
+use Rattle.plate_model.specs.Refusal.{Refusal, LogEmpty, Outcome, refuse_if, count_check, empty_check}
 use Rattle.plate_model.specs.Refusal.{ask_check, put_check, undo_check, plate_check}
 use Rattle.plate_model.specs.Lent.{state_of, Lent, lent, lengths_of, Ask}
 use Rattle.plate_model.specs.Marks.{pixel_marks, on_cell, exchanged}
@@ -155,14 +156,14 @@ module _ (z : Size) (room : ℕ) (planes : List ℕ) (grid : List Pixel) (pile :
   pub agree_refused : (f : Refusal)
       → Agree z room
       (step_of (refused f (state_of z (length pile)) (held_by room planes grid pile)))
-      (book_refused (Refused f) (book_of z room grid pile))
+      (book_refused (Err f) (book_of z room grid pile))
   agree_refused f = agree_still _ _ refl
 
   -- PUT
   put_done : (a : Ask) → a.opacity < 256 → AskAccepted z (length pile) room a
       → Agree z room
-      (step_of (put_by (put_read_by Accepted z a (map word_of grid)) (state_of z (length pile)) (held_by room planes grid pile)))
-      (book_put_by Accepted (book_of z room grid pile) a)
+      (step_of (put_by (put_read_by (Ok tt) z a (map word_of grid)) (state_of z (length pile)) (held_by room planes grid pile)))
+      (book_put_by (Ok tt) (book_of z room grid pile) a)
   unfolding put_by put_read_by put_over changed book_put_by log_by PileFits
   put_done a byte ok =
       let i = asked_place z a in
@@ -190,8 +191,8 @@ module _ (z : Size) (room : ℕ) (planes : List ℕ) (grid : List Pixel) (pile :
       → Agree z room
       (step_of (put_by (put_read_by o z a (map word_of grid)) (state_of z (length pile)) (held_by room planes grid pile)))
       (book_put_by o (book_of z room grid pile) a)
-  put_agrees_by a byte Accepted e = put_done a byte (ask-accepted z (length pile) room a e)
-  put_agrees_by a byte (Refused f) e = unfold put_by put_read_by book_put_by in (agree_refused f)
+  put_agrees_by a byte (Ok tt) e = put_done a byte (ask-accepted z (length pile) room a e)
+  put_agrees_by a byte (Err f) e = unfold put_by put_read_by book_put_by in (agree_refused f)
 
   pub put_agrees : (a : Ask) → a.opacity < 256
       → Agree z room
@@ -207,7 +208,7 @@ undo_done : (z : Size) (room : ℕ) (planes : List ℕ) (grid : List Pixel) (e :
     → Mirrored z room planes grid (e ∷ pile) →
     let s = state_of z (suc (length pile)) in
     let l = held_by room planes grid (e ∷ pile) in
-    Agree z room (step_of (undo_by (undo_read_by Accepted s l.pixels l.log) s l)) (book_undo_of z room grid (e ∷ pile))
+    Agree z room (step_of (undo_by (undo_read_by (Ok tt) s l.pixels l.log) s l)) (book_undo_of z room grid (e ∷ pile))
 unfolding undo_by undo_read_by undo_entry undo_over changed book_undo_of PileFits
 undo_done z room planes grid e pile kept =
     let fits = kept.pile_fits in
@@ -237,12 +238,12 @@ undo_agrees_by : (z : Size) (room : ℕ) (planes : List ℕ) (grid : List Pixel)
     → Mirrored z room planes grid pile →
     let s = state_of z (length pile) in
     let l = held_by room planes grid pile in
-    Agree z room (step_of (undo_by (undo_read_by (empty_check (length pile) Accepted) s l.pixels l.log) s l))
+    Agree z room (step_of (undo_by (undo_read_by (empty_check (length pile) (Ok tt)) s l.pixels l.log) s l))
     (book_undo_of z room grid pile)
 undo_agrees_by z room planes grid [] kept =
     unfold undo_by undo_read_by book_undo_of refuse_if in (agree_refused z room planes grid [] kept LogEmpty)
 undo_agrees_by z room planes grid (e ∷ pile) kept =
-    rw (check_passes (empty_checks (suc (length pile))) Accepted (omega arith))
+    rw (check_passes (empty_checks (suc (length pile))) (Ok tt) (omega arith))
     (undo_done z room planes grid e pile kept)
 
 pub undo_agrees : (z : Size) (room : ℕ) (planes : List ℕ) (grid : List Pixel) (pile : List Entry)
@@ -252,5 +253,5 @@ pub undo_agrees : (z : Size) (room : ℕ) (planes : List ℕ) (grid : List Pixel
     (book_undo (book_of z room grid pile))
 unfolding undo_call undo_read undo_check book_undo
 undo_agrees z room planes grid pile kept =
-    rw (checks_kept z room planes grid pile kept (empty_check (length pile) Accepted))
+    rw (checks_kept z room planes grid pile kept (empty_check (length pile) (Ok tt)))
     (undo_agrees_by z room planes grid pile kept)

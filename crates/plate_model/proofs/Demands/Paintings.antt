@@ -1,5 +1,6 @@
 -- Refresh under the brush: kept sums and pictures that are those of the plate before a call are those of the plate after it, call
 -- after call; and on a plate of its own calls what is kept is plain spreading.
+use Rattle.std.specs.Prelude.{Result, Ok, Err}
 use mathlib.Core.Path.{◌≡◌, refl, ap, sym, ◌∙◌}
 use mathlib.Core.List.{List, [], ◌∷◌, ◌++◌, map}
 use Prim.Native.Nat.{ℕ, ◌<◌}
@@ -9,9 +10,9 @@ use Rattle.kernels_model.specs.Fixed.{planes_each}
 use Rattle.plate_model.specs.Layout.{Size, places, sums_in_all}
 use Rattle.plate_model.specs.Lent.{State, Ask, ask, Lent, lengths_of, Views, canvas}
 use Rattle.plate_model.specs.Marks.{exchanged}
-use Rattle.plate_model.specs.Refusal.{Refusal, Outcome, Accepted, Refused, outcome_number, canvas_check, open_check, show_check}
+use Rattle.plate_model.specs.Refusal.{Refusal, Outcome, outcome_number, canvas_check, open_check, show_check}
 use Rattle.plate_model.specs.Refusal.{show_kept_check, kept_check}
-use Rattle.plate_model.specs.Change.{Change, ChangeRead, ToChange, NoChange}
+use Rattle.plate_model.specs.Change.{Change}
 use Rattle.kernels_model.specs.Listed.{list_to}
 use Rattle.plate_model.specs.Calls.{open_call, changed, put_by, put_call, undo_by, undo_call, sum_at, show_by}
 use Rattle.plate_model.specs.Plain.{plain_sums, plain_values, plain_mattes}
@@ -35,19 +36,19 @@ use Rattle.plate_model.proofs.Demands.Demand.{sums_plain, values_plain, mattes_p
 
 -- ONE CALL
 -- what comes after the refusals of sums and pictures is what the first form reads
-read_first : (o : Outcome) (r : ChangeRead) (c : Change) → kept_read o r ≡ ToChange c → r ≡ ToChange c
+read_first : (o : Outcome) (r : Result Change Refusal) (c : Change) → kept_read o r ≡ Ok c → r ≡ Ok c
 unfolding kept_read
-read_first (Refused f) r c e = no_change f c e
-read_first Accepted r c e = e
+read_first (Err f) r c e = no_change f c e
+read_first (Ok tt) r c e = e
 
 -- a call that leaves the planes as they are where it reads no change, and else the pixels exchanged
-canvas-fresh : (z : Size) (planes : List ℕ) (planes' : ChangeRead → List ℕ) → ((f : Refusal) → planes' (NoChange f) ≡ planes)
-    → ((c : Change) → planes' (ToChange c) ≡ exchanged z c.place c.old c.new planes)
-    → (r : ChangeRead) → ((c : Change) → r ≡ ToChange c → Changeable z c (length planes))
+canvas-fresh : (z : Size) (planes : List ℕ) (planes' : Result Change Refusal → List ℕ) → ((f : Refusal) → planes' (Err f) ≡ planes)
+    → ((c : Change) → planes' (Ok c) ≡ exchanged z c.place c.old c.new planes)
+    → (r : Result Change Refusal) → ((c : Change) → r ≡ Ok c → Changeable z c (length planes))
     → canvas_by r z (canvas_of z planes) ≡ canvas_of z (planes' r)
 unfolding canvas_by
-canvas-fresh z planes planes' still moved (NoChange f) ok = rw (still f)
-canvas-fresh z planes planes' still moved (ToChange c) ok = rw (moved c) (mended-fresh z c planes (ok c refl))
+canvas-fresh z planes planes' still moved (Err f) ok = rw (still f)
+canvas-fresh z planes planes' still moved (Ok c) ok = rw (moved c) (mended-fresh z c planes (ok c refl))
 
 -- a put and an undo are such calls
 put_fresh : (s : State) (a : Ask) (l : Lent) → a.opacity < 256 →
@@ -78,15 +79,15 @@ Fresh p = p.canvas ≡ canvas_of p.plate.state.size p.plate.buffers.planes
 abbrev StillAs : Plate → Plate → Type 0
 StillAs p q = (q.state.size ≡ p.state.size) × (length q.buffers.planes ≡ length p.buffers.planes)
 
-put_still : (r : ChangeRead) (p : Plate) → StillAs p (left_by (put_by r p.state p.buffers))
+put_still : (r : Result Change Refusal) (p : Plate) → StillAs p (left_by (put_by r p.state p.buffers))
 unfolding put_by changed
-put_still (NoChange f) p = (refl, refl)
-put_still (ToChange c) p = (refl, length_exchanged p.state.size c.place c.old c.new p.buffers.planes)
+put_still (Err f) p = (refl, refl)
+put_still (Ok c) p = (refl, length_exchanged p.state.size c.place c.old c.new p.buffers.planes)
 
-undo_still : (r : ChangeRead) (p : Plate) → StillAs p (left_by (undo_by r p.state p.buffers))
+undo_still : (r : Result Change Refusal) (p : Plate) → StillAs p (left_by (undo_by r p.state p.buffers))
 unfolding undo_by changed
-undo_still (NoChange f) p = (refl, refl)
-undo_still (ToChange c) p = (refl, length_exchanged p.state.size c.place c.old c.new p.buffers.planes)
+undo_still (Err f) p = (refl, refl)
+undo_still (Ok c) p = (refl, length_exchanged p.state.size c.place c.old c.new p.buffers.planes)
 
 paint_still : (p : Painting) (d : KeptCall) → StillAs p.plate (paint p d).plate
 unfolding paint put_kept_call put_kept_by undo_kept_call undo_kept_by
@@ -125,7 +126,7 @@ kept_checked s planes v sums =
     show_kept_check s (length planes) (length v.scratch) (length v.values) (length v.mattes) (length sums)
 
 kept_checked_lem : (s : State) (planes : List ℕ) (v : Views) (sums : List ℕ)
-    → (show_kept_call s planes v sums).call.answer.number ≡ 0 → kept_checked s planes v sums ≡ Accepted
+    → (show_kept_call s planes v sums).call.answer.number ≡ 0 → kept_checked s planes v sums ≡ Ok tt
 unfolding show_kept_call show_kept_by
 kept_checked_lem s planes v sums e = accepted-numbered _ (sym (show_returns _ s planes v) ∙ e)
 
@@ -178,11 +179,11 @@ paints_fresh p v sums changes e v' sums' much =
 
 -- THE FIRST FORMS
 -- sums and pictures of a plate have the lengths that are asked for
-canvas-accepted : (z : Size) (planes : List ℕ) → LawfulSize z → canvas_first z (canvas_of z planes) ≡ Accepted
+canvas-accepted : (z : Size) (planes : List ℕ) → LawfulSize z → canvas_first z (canvas_of z planes) ≡ Ok tt
 unfolding kept_check canvas_check sums_of
 canvas-accepted z planes law =
     sizes_pass z _ law
-    ∙ check_passes (canvas_checks z _ _ _) Accepted (both, (length-list_to _ (places z), length-list_to _ (places z)))
+    ∙ check_passes (canvas_checks z _ _ _) (Ok tt) (both, (length-list_to _ (places z), length-list_to _ (places z)))
   where
     both : length (list_to (sum_at z planes 0) (places z) ++ list_to (sum_at z planes planes_each) (places z)) ≡ sums_in_all z
     both =
@@ -190,7 +191,7 @@ canvas-accepted z planes law =
         ∙ omega (arith, length-list_to (sum_at z planes 0) (places z), length-list_to (sum_at z planes planes_each) (places z))
 
 fresh-accepted : (p : Painting) → LawfulSize p.plate.state.size → Fresh p
-    → canvas_first p.plate.state.size p.canvas ≡ Accepted
+    → canvas_first p.plate.state.size p.canvas ≡ Ok tt
 fresh-accepted p law e = rw e (canvas-accepted p.plate.state.size p.plate.buffers.planes law)
 
 -- so on a lawful plate a put and an undo of the second form leave the plate that those of the first form leave
@@ -217,7 +218,7 @@ after_append p (c ∷ calls) more = after_append (plate_step p c).plate calls mo
 
 -- PLAIN SPREADING
 -- the sums and pictures of a plate of its own calls are plain
-canvas-plain : (z : Size) (l : Lent) (calls : List Call) → open_check z (lengths_of l) ≡ Accepted →
+canvas-plain : (z : Size) (l : Lent) (calls : List Call) → open_check z (lengths_of l) ≡ Ok tt →
     let p = plate_after (left_by (open_call z l)) calls in
     let grid = (book_after (open_book z (length l.log)) calls).grid in
     canvas_of p.state.size p.buffers.planes ≡ canvas (plain_sums z grid) (plain_values z grid) (plain_mattes z grid)

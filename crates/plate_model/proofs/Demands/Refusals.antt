@@ -1,4 +1,5 @@
 -- What lists of calls are refused for: a call's own arguments and what it is lent besides the plate.
+use Rattle.std.specs.Prelude.{Ok, Err}
 use mathlib.Core.Path.{◌≡◌, refl}
 use mathlib.Core.Logic.{◌≢◌, ◌⊎◌, inl, inr, ⊎_elim}
 use mathlib.Core.List.{List, [], ◌∷◌}
@@ -12,7 +13,7 @@ use Rattle.plate_model.specs.Fixed.{scratch_planes}
 use Rattle.plate_model.specs.Layout.{Size, padded, places, sums_in_all}
 use Rattle.plate_model.specs.Word.{Pixel, Entry}
 use Rattle.plate_model.specs.Lent.{Ask, ask, Inputs, inputs, Views, Canvas}
-use Rattle.plate_model.specs.Refusal.{Refusal, Lengths, Outcome, Accepted, Refused, refusal_number, outcome_number, ask_check}
+use Rattle.plate_model.specs.Refusal.{Refusal, Lengths, Outcome, refusal_number, outcome_number, ask_check}
 use Rattle.plate_model.specs.Refusal.{inputs_check, layer_check, views_check, canvas_check}
 use Rattle.plate_model.specs.Table.{InputsWrong, SeenWrong, SumsWrong, CanvasWrong}
 use Rattle.plate_model.specs.Notebook.{Book, book_put_by, book_put, book_undo_of, book_undo, book_fill_by, book_fill, book_show_by}
@@ -127,19 +128,19 @@ given_checked {G} k next h =
 -- THE CALLS
 put_number : (o : Outcome) (b : Book) (a : Ask) → (book_put_by o b a).report.number ≡ outcome_number o
 unfolding book_put_by
-put_number Accepted b a = refl
-put_number (Refused f) b a = refl
+put_number (Ok tt) b a = refl
+put_number (Err f) b a = refl
 
 fill_number : (c : Outcome) (b : Book) (o : Lens) (k : ℕ) (f : Inputs)
     → (book_fill_by c b o k f).report.number ≡ outcome_number c
 unfolding book_fill_by
-fill_number Accepted b o k f = refl
-fill_number (Refused g) b o k f = refl
+fill_number (Ok tt) b o k f = refl
+fill_number (Err g) b o k f = refl
 
 show_number : (o : Outcome) (b : Book) → (book_show_by o b).report.number ≡ outcome_number o
 unfolding book_show_by
-show_number Accepted b = refl
-show_number (Refused f) b = refl
+show_number (Ok tt) b = refl
+show_number (Err f) b = refl
 
 put_other : (b : Book) (x y v a n r : ℕ) → Other (book_put b (ask x y v a n r)).report.number
 unfolding book_put
@@ -172,7 +173,7 @@ show_given b v =
     let pictures = checks_both (length_checks (length v.values) n) (length_checks (length v.mattes) n) in
     let lengths = checks_both (length_checks (length v.scratch) (scratch_planes * padded b.size)) pictures in
     rw (show_number (views_check b.size (length v.scratch) (length v.values) (length v.mattes)) b)
-    (given_checked lengths Accepted accepted_other)
+    (given_checked lengths (Ok tt) accepted_other)
 
 -- a second form of put or undo, after the check of sums and pictures
 canvas-given : (b : Book) (k : Canvas) (t : BookLeft) → Other t.report.number
@@ -182,16 +183,16 @@ unfolding canvas_check CanvasWrong book_kept
 canvas-given b k t h =
     let lengths = canvas_checks b.size (length k.sums) (length k.values) (length k.mattes) in
     by_check lengths
-    (λ wrong r. rw (r Accepted) (given_wrong _ wrong))
-    (λ right r. rw (r Accepted) (given_right _ _ (λ wrong. lengths.apart wrong right) h))
+    (λ wrong r. rw (r (Ok tt)) (given_wrong _ wrong))
+    (λ right r. rw (r (Ok tt)) (given_right _ _ (λ wrong. lengths.apart wrong right) h))
 
 show_kept_given : (b : Book) (v : Views) (sums : List ℕ)
     → GivenInList (SeenWrong b.size v ⊎ SumsWrong b.size sums) (book_show_kept b v sums).report.number
 unfolding book_show_kept book_kept
 show_kept_given b v sums =
     by_check (length_checks (length sums) (sums_in_all b.size))
-    (λ wrong r. rw (r Accepted) (given_wrong _ (inr wrong)))
-    (λ right r. rw (r Accepted) (given_also _ _ _ (λ wrong. wrong right) (show_given b v)))
+    (λ wrong r. rw (r (Ok tt)) (given_wrong _ (inr wrong)))
+    (λ right r. rw (r (Ok tt)) (given_also _ _ _ (λ wrong. wrong right) (show_given b v)))
 
 step_given : (b : Book) (c : Call) → GivenInList (OwnLentWrong b.size c) (book_step b c).report.number
 unfolding OwnLentWrong book_step book_put_kept book_undo_kept

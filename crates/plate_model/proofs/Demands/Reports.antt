@@ -1,5 +1,6 @@
 -- The mark counts of the reports: an accepted put or undo reports the marks of the shape that left plus those of the shape that
 -- came, which are 16 to 40; every other report has none.
+use Rattle.std.specs.Prelude.{Ok, Err}
 use mathlib.Core.Path.{◌≡◌, refl}
 use mathlib.Core.List.{List, [], ◌∷◌}
 use Prim.Native.Nat.{ℕ, ◌+◌, ◌*◌, ◌≤◌}
@@ -11,7 +12,7 @@ use Rattle.kernels_model.specs.declared.lens.Lens.{Lens}
 use Rattle.kernels_model.proofs.Taps.ShapeNumbers.{count_few}
 use Rattle.plate_model.specs.Layout.{Size}
 use Rattle.plate_model.specs.Word.{Pixel, Entry}
-use Rattle.plate_model.specs.Refusal.{Refusal, refusal_number, Outcome, Accepted, Refused, ask_check}
+use Rattle.plate_model.specs.Refusal.{Refusal, refusal_number, Outcome, ask_check}
 use Rattle.plate_model.specs.Lent.{Ask, ask, Inputs, inputs, Views}
 use Rattle.plate_model.specs.Asked.{asked_place, asked_pixel, known_shape}
 use Rattle.plate_model.specs.Plain.{pixel_at}
@@ -53,8 +54,8 @@ book_put_lem b a = by (ask_check b.size (length b.pile) b.room a)
   where
     by : (o : Outcome)
         → Reported (mark_count (pixel_at b.grid (asked_place b.size a)) + mark_count (asked_pixel a)) (book_put_by o b a).report
-    by Accepted = unfold book_put_by in (reported_accepted _)
-    by (Refused f) = unfold book_put_by in (reported_refused _ f)
+    by (Ok tt) = unfold book_put_by in (reported_accepted _)
+    by (Err f) = unfold book_put_by in (reported_refused _ f)
 
 -- on a plate: "Both report the table's marks of the old shape plus those of the new"
 module _ (z : Size) (room : ℕ) (planes : List ℕ) (grid : List Pixel) where
@@ -83,24 +84,24 @@ undo_few z room grid (e ∷ pile) = few (pixel_at grid e.place).shape e.pixel.sh
 
 fill_none : (c : Outcome) (b : Book) (o : Lens) (n : ℕ) (f : Inputs) → (book_fill_by c b o n f).report.marks ≡ 0
 unfolding book_fill_by
-fill_none Accepted b o n f = refl
-fill_none (Refused g) b o n f = refl
+fill_none (Ok tt) b o n f = refl
+fill_none (Err g) b o n f = refl
 
 show_none : (c : Outcome) (b : Book) → (book_show_by c b).report.marks ≡ 0
 unfolding book_show_by
-show_none Accepted b = refl
-show_none (Refused g) b = refl
+show_none (Ok tt) b = refl
+show_none (Err g) b = refl
 
 -- a second form counts as the first, and none where it is refused for its buffers
 kept_few : (o : Outcome) (b : Book) (t : BookLeft) → Few t.report → Few (book_kept o b t).report
 unfolding book_kept
-kept_few Accepted b t h = h
-kept_few (Refused f) b t h = record { if_accepted = λ e. absurd (omega (arith, refusal_some f)); if_refused = λ d. refl }
+kept_few (Ok tt) b t h = h
+kept_few (Err f) b t h = record { if_accepted = λ e. absurd (omega (arith, refusal_some f)); if_refused = λ d. refl }
 
 kept_none : (o : Outcome) (b : Book) (t : BookLeft) → t.report.marks ≡ 0 → (book_kept o b t).report.marks ≡ 0
 unfolding book_kept
-kept_none Accepted b t h = h
-kept_none (Refused f) b t h = refl
+kept_none (Ok tt) b t h = h
+kept_none (Err f) b t h = refl
 
 put_few : (b : Book) (a : Ask) → Few (book_put b a).report
 put_few b a = few (pixel_at b.grid (asked_place b.size a)).shape (known_shape a.shape) _ (book_put_lem b a)

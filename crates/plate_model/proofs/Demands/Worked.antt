@@ -1,5 +1,6 @@
 -- The paper's record run as a list of calls: "01 03 00 01 00 01 02 01 00 00 00 64 00 FF 00 01 02 00 00 00 00 28 00 FF 00 00 04
 -- 03 04". The notebook's reports of it, computed, and so the plate's.
+use Rattle.std.specs.Prelude.{Ok}
 use mathlib.Core.Path.{◌≡◌, refl, ◌∙◌}
 use mathlib.Core.List.{List, [], ◌∷◌}
 use Prim.Native.Nat.{ℕ}
@@ -9,7 +10,7 @@ use Rattle.kernels_model.specs.Sum.{sum}
 use Rattle.kernels_model.specs.Tap.{tap, area, share_for, rest_for, weight}
 use Rattle.kernels_model.specs.Rounding.{nearest, nearest_even, shown_value, shown_matte}
 use Rattle.plate_model.specs.Layout.{Size}
-use Rattle.plate_model.specs.Refusal.{Accepted, refuse_if, sizes_check, lent_check, place_check, shape_check, radius_check}
+use Rattle.plate_model.specs.Refusal.{refuse_if, sizes_check, lent_check, place_check, shape_check, radius_check}
 use Rattle.plate_model.specs.Refusal.{ask_check, views_check, open_check}
 use Rattle.plate_model.specs.Lent.{Lent, lent, lengths_of, Views, views}
 use Rattle.kernels_model.specs.Listed.{zeros, list_to}
@@ -63,7 +64,7 @@ unfolding book_reports book_step book_put book_put_by book_undo book_undo_of boo
     shown_value shown_matte nearest nearest_even
 book_run = refl
 
-open_accepted : open_check three_by_one (lengths_of buffers) ≡ Accepted
+open_accepted : open_check three_by_one (lengths_of buffers) ≡ Ok tt
 unfolding open_check sizes_check lent_check refuse_if
 open_accepted = refl
 

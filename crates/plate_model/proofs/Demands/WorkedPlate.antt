@@ -1,4 +1,5 @@
 -- The worked examples of specs/Worked.antt: computed on the notebook, and so true of the plate, by demand 3.
+use Rattle.std.specs.Prelude.{Ok}
 use mathlib.Core.Path.{◌≡◌, refl, ap, sym, ◌∙◌}
 use mathlib.Core.Bool.{Bool, true, false}
 use mathlib.Core.List.{List, [], ◌∷◌, map}
@@ -14,7 +15,7 @@ use Rattle.kernels_model.specs.Mark.{hexagon_marks, tap_marks, scaled, centre_ma
 use Rattle.kernels_model.specs.Rounding.{nearest, nearest_even, shown_value, shown_matte}
 use Rattle.kernels_model.specs.Lens.{lawful_lens, blur}
 use Rattle.plate_model.specs.Word.{word_of}
-use Rattle.plate_model.specs.Refusal.{Accepted, refuse_if, sizes_check, lent_check, place_check, shape_check, radius_check}
+use Rattle.plate_model.specs.Refusal.{refuse_if, sizes_check, lent_check, place_check, shape_check, radius_check}
 use Rattle.plate_model.specs.Refusal.{ask_check, inputs_check, layer_check, any_of, is_between, views_check, open_check}
 use Rattle.plate_model.specs.Lent.{Lent, LentLengths, lent_lengths, lengths_of}
 use Rattle.kernels_model.specs.Listed.{list_to}
@@ -32,7 +33,7 @@ use Rattle.plate_model.proofs.Checks.Conditions.{true-not}
 use Rattle.plate_model.proofs.Demands.Demand.{demand_3}
 
 -- ON EVERY PLATE
-open_accepted : open_check four_by_three (lent_lengths 2548 12 5) ≡ Accepted
+open_accepted : open_check four_by_three (lent_lengths 2548 12 5) ≡ Ok tt
 unfolding open_check sizes_check lent_check refuse_if
 open_accepted = refl
 

@@ -1,9 +1,10 @@
 -- Words and entries both ways, from what reading tells of each.
+use Rattle.std.specs.Prelude.{None}
 use mathlib.Core.Path.{◌≡◌, sym, ◌∙◌}
 use mathlib.Core.Logic.{inl, inr}
 use Prim.Native.Nat.{ℕ}
 use Rattle.plate_model.specs.Layout.{Size}
-use Rattle.plate_model.specs.Word.{Broken, read_word, Unreadable, read_entry}
+use Rattle.plate_model.specs.Word.{read_word, read_entry}
 use Rattle.plate_model.specs.Table.{WordBroken, EntryBroken}
 use Rattle.plate_model.specs.WordFacts.{WordsInverse, EntriesInverse}
 use Rattle.plate_model.proofs.Words.Words.{broken-not, read_back, read_fits, read_word_lem, unreadable_not, entry_back}
@@ -11,11 +12,11 @@ use Rattle.plate_model.proofs.Words.Words.{entry_read}
 use Rattle.plate_model.proofs.Words.Stored.{WordCases, word_cases, EntryCases, entry_cases}
 
 -- WORDS
-broken_read : (R w : ℕ) → WordCases R w → WordBroken R w → read_word R w ≡ Broken
+broken_read : (R w : ℕ) → WordCases R w → WordBroken R w → read_word R w ≡ None
 broken_read R w (inl t) b = t.1
 broken_read R w (inr t) b = absurd (t.sound b)
 
-read_broken : (R w : ℕ) → WordCases R w → read_word R w ≡ Broken → WordBroken R w
+read_broken : (R w : ℕ) → WordCases R w → read_word R w ≡ None → WordBroken R w
 read_broken R w (inl t) e = t.0
 read_broken R w (inr t) e = broken-not t.pixel (sym e ∙ t.read)
 
@@ -29,11 +30,11 @@ words_inverse =
     }
 
 -- ENTRIES
-entry_broken_read : (z : Size) (n : ℕ) → EntryCases z n → EntryBroken z n → read_entry z n ≡ Unreadable
+entry_broken_read : (z : Size) (n : ℕ) → EntryCases z n → EntryBroken z n → read_entry z n ≡ None
 entry_broken_read z n (inl t) b = t.1
 entry_broken_read z n (inr t) b = absurd (t.sound b)
 
-entry_read_broken : (z : Size) (n : ℕ) → EntryCases z n → read_entry z n ≡ Unreadable → EntryBroken z n
+entry_read_broken : (z : Size) (n : ℕ) → EntryCases z n → read_entry z n ≡ None → EntryBroken z n
 entry_read_broken z n (inl t) e = t.0
 entry_read_broken z n (inr t) e = unreadable_not t.entry (sym e ∙ t.read)
 

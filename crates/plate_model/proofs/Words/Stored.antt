@@ -1,4 +1,5 @@
 -- 10: a stored word or entry is read where it breaks nothing, and only there.
+use Rattle.std.specs.Prelude.{Some, None}
 use mathlib.Core.Path.{◌≡◌, refl}
 use mathlib.Core.Logic.{◌⊎◌, inl, inr, ⊎_elim}
 use Prim.Native.Nat.{ℕ, ◌*◌, ◌/◌, ◌%◌, ◌^◌, ◌≤◌, ◌<◌}
@@ -7,12 +8,11 @@ use native.Mathlib.Nat.{mod-lt, mul_comm, div-lt_iff_lt-mul}
 use borrow.Author.Tests.{lt-ltb, le-ltb, le-leb, lt-leb}
 use Rattle.kernels_model.specs.Fixed.{shape_count}
 use Rattle.kernels_model.specs.declared.shape.Shape.{Shape}
-use Rattle.kernels_model.specs.declared.shape.ShapeRead.TheVariants.{Known}
 use Rattle.kernels_model.specs.Shape.{shape_of, top_under}
 use Rattle.kernels_model.proofs.Numbers.Choices.{by_lt}
 use Rattle.plate_model.specs.Fixed.{word_bits}
 use Rattle.plate_model.specs.Layout.{Size, places}
-use Rattle.plate_model.specs.Word.{Pixel, Whole, Broken, read_word, Entry, Logged, Unreadable, read_entry}
+use Rattle.plate_model.specs.Word.{Pixel, read_word, Entry, read_entry}
 use Rattle.plate_model.specs.Table.{PlaceOutside, RadiusAbove, WordBroken, EntryBroken, place_in, LawfulSize}
 use Rattle.plate_model.proofs.Numbers.Extents.{row_of_lem}
 use Rattle.plate_model.proofs.Checks.Conditions.{shape_named, place_apart}
@@ -22,13 +22,13 @@ use Rattle.plate_model.proofs.Checks.Conditions.{shape_named, place_apart}
 pub record WordRead (R w : ℕ) : Type 0 where
   pub sound : ¬ (WordBroken R w)
   pub pixel : Pixel
-  pub read : read_word R w ≡ Whole pixel
+  pub read : read_word R w ≡ Some pixel
 
 abbrev pub WordCases : ℕ → ℕ → Type 0
-WordCases R w = (WordBroken R w × (read_word R w ≡ Broken)) ⊎ WordRead R w
+WordCases R w = (WordBroken R w × (read_word R w ≡ None)) ⊎ WordRead R w
 
 -- a word of 32 bits that keeps a shape
-word_shaped : (R w : ℕ) (s : Shape) → w < 2 ^ word_bits → w / 2 ^ 20 % 16 < shape_count → shape_of (w / 2 ^ 20 % 16) ≡ Known s
+word_shaped : (R w : ℕ) (s : Shape) → w < 2 ^ word_bits → w / 2 ^ 20 % 16 < shape_count → shape_of (w / 2 ^ 20 % 16) ≡ Some s
     → WordCases R w
 unfolding WordBroken RadiusAbove read_word
 word_shaped R w s low few e =
@@ -54,11 +54,11 @@ word_cases R w =
 pub record EntryLogged (z : Size) (e : ℕ) : Type 0 where
   pub sound : ¬ (EntryBroken z e)
   pub entry : Entry
-  pub read : read_entry z e ≡ Logged entry
+  pub read : read_entry z e ≡ Some entry
   pub place_is : entry.place ≡ place_in e
 
 abbrev pub EntryCases : Size → ℕ → Type 0
-EntryCases z e = (EntryBroken z e × (read_entry z e ≡ Unreadable)) ⊎ EntryLogged z e
+EntryCases z e = (EntryBroken z e × (read_entry z e ≡ None)) ⊎ EntryLogged z e
 
 -- past the last place its row is past the last
 row_past : (i w h : ℕ) → 0 < w → w * h ≤ i → h ≤ i / w

@@ -1,4 +1,5 @@
 -- The pixel word and the log entry: reading gives back what was packed, and what is read is lawful and packs to what was read.
+use Rattle.std.specs.Prelude.{Option, Some, None}
 use mathlib.Core.Path.{◌≡◌, refl, ap, sym, ◌∙◌}
 use mathlib.Core.Bool.{Bool, true, false}
 use Prim.Native.Nat.{ℕ, zero, suc, ◌+◌, ◌*◌, ◌/◌, ◌%◌, ◌^◌, ◌≤◌, ◌<◌}
@@ -8,19 +9,17 @@ use borrow.Author.Tests.{ltb-false, leb-false, le-ltb, lt-leb}
 use Rattle.kernels_model.specs.Choice.{pick}
 use Rattle.kernels_model.specs.declared.shape.Shape.{Shape}
 use Rattle.kernels_model.specs.declared.shape.Shape.TheVariants.{Box, Tent, Triple, Diamond, Hexagon, Octagon}
-use Rattle.kernels_model.specs.declared.shape.ShapeRead.{ShapeRead}
-use Rattle.kernels_model.specs.declared.shape.ShapeRead.TheVariants.{Known, Unknown}
 use Rattle.kernels_model.specs.Shape.{number_of, shape_of, top_under}
 use Rattle.kernels_model.proofs.Taps.ShapeNumbers.{number_le, number_back, top_small}
 use Rattle.plate_model.specs.Layout.{Size, places}
-use Rattle.plate_model.specs.Word.{Pixel, word_of, Unpacked, Whole, Broken, pixel_in, read_word, Entry, entry_of, Logged}
-use Rattle.plate_model.specs.Word.{Unreadable, entry_in, read_entry}
+use Rattle.plate_model.specs.Word.{Pixel, word_of, pixel_in, read_word, Entry, entry_of}
+use Rattle.plate_model.specs.Word.{entry_in, read_entry}
 use Rattle.plate_model.specs.Word.{Fits}
 use Rattle.plate_model.specs.Fixed.{word_bits}
 
 -- SHAPES
 -- the shape read from a number has that number
-pub number_of_lem : (n : ℕ) (s : Shape) → shape_of n ≡ Known s → number_of s ≡ n
+pub number_of_lem : (n : ℕ) (s : Shape) → shape_of n ≡ Some s → number_of s ≡ n
 number_of_lem zero s e = let q : Box ≡ s = cc in sym (ap number_of q)
 number_of_lem (suc zero) s e = let q : Tent ≡ s = cc in sym (ap number_of q)
 number_of_lem (suc (suc zero)) s e = let q : Triple ≡ s = cc in sym (ap number_of q)
@@ -28,7 +27,7 @@ number_of_lem (suc (suc (suc zero))) s e = let q : Diamond ≡ s = cc in sym (ap
 number_of_lem (suc (suc (suc (suc zero)))) s e = let q : Hexagon ≡ s = cc in sym (ap number_of q)
 number_of_lem (suc (suc (suc (suc (suc zero))))) s e = let q : Octagon ≡ s = cc in sym (ap number_of q)
 number_of_lem (suc (suc (suc (suc (suc (suc n)))))) s e =
-    let none : Unknown ≡ Known s = e in
+    let none : None ≡ Some s = e in
     let z : ◌≡◌ {A = ℕ} 0 1 = cc in
     absurd (omega arith)
 
@@ -66,7 +65,7 @@ radius_part v a s r p q t u =
     rw above (omega arith)
 
 -- a packed pixel is read back
-pub read_back : (R : ℕ) (p : Pixel) → Fits R p → read_word R (word_of p) ≡ Whole p
+pub read_back : (R : ℕ) (p : Pixel) → Fits R p → read_word R (word_of p) ≡ Some p
 unfolding read_word
 read_back R p f =
     let v : p.value < 4096 = omega (arith, f.value_fits) in
@@ -87,46 +86,46 @@ read_back R p f =
 -- what a word that reads as a pixel holds
 record Reads (R w : ℕ) (p : Pixel) : Type 0 where
   word_low : w < 2 ^ word_bits
-  shape_is : shape_of (w / 2 ^ 20 % 16) ≡ Known p.shape
+  shape_is : shape_of (w / 2 ^ 20 % 16) ≡ Some p.shape
   top_is : w / 2 ^ 24 % 256 ≤ top_under p.shape R
   value_is : p.value ≡ w % 2 ^ 12
   opacity_is : p.opacity ≡ w / 2 ^ 12 % 256
   radius_is : p.radius ≡ w / 2 ^ 24 % 256
 
-pub broken-not : {P : Type 0} (p : Pixel) → Broken ≡ Whole p → P
+pub broken-not : {P : Type 0} (p : Pixel) → None ≡ Some p → P
 broken-not p e = let z : ◌≡◌ {A = ℕ} 0 1 = cc in absurd (omega arith)
 
-reads : (R w : ℕ) (p : Pixel) → read_word R w ≡ Whole p → Reads R w p
+reads : (R w : ℕ) (p : Pixel) → read_word R w ≡ Some p → Reads R w p
 unfolding read_word
 reads R w p e = low (leb (2 ^ word_bits) w) refl e
   where
     top : (s : Shape) (t : Bool) → ltb (top_under s R) (w / 2 ^ 24 % 256) ≡ t → w < 2 ^ word_bits
-        → shape_of (w / 2 ^ 20 % 16) ≡ Known s
-        → pick t Broken
-        (Whole (record { value = w % 2 ^ 12; opacity = w / 2 ^ 12 % 256; shape = s; radius = w / 2 ^ 24 % 256 })) ≡ Whole p
+        → shape_of (w / 2 ^ 20 % 16) ≡ Some s
+        → pick t None
+        (Some (record { value = w % 2 ^ 12; opacity = w / 2 ^ 12 % 256; shape = s; radius = w / 2 ^ 24 % 256 })) ≡ Some p
         → Reads R w p
     top s true q l g e = broken-not p e
     top s false q l g e =
         let same : s ≡ p.shape = cc in
         record {
           word_low = l;
-          shape_is = g ∙ ap Known same;
+          shape_is = g ∙ ap Some same;
           top_is = rw same at (ltb-false (top_under s R) (w / 2 ^ 24 % 256) q);
           value_is = cc;
           opacity_is = cc;
           radius_is = cc;
         }
 
-    known : (s : ShapeRead) → shape_of (w / 2 ^ 20 % 16) ≡ s → w < 2 ^ word_bits → pixel_in R w s ≡ Whole p → Reads R w p
-    known Unknown g l e = broken-not p e
-    known (Known s) g l e = top s (ltb (top_under s R) (w / 2 ^ 24 % 256)) refl l g e
+    known : (s : Option Shape) → shape_of (w / 2 ^ 20 % 16) ≡ s → w < 2 ^ word_bits → pixel_in R w s ≡ Some p → Reads R w p
+    known None g l e = broken-not p e
+    known (Some s) g l e = top s (ltb (top_under s R) (w / 2 ^ 24 % 256)) refl l g e
 
-    low : (t : Bool) → leb (2 ^ word_bits) w ≡ t → pick t Broken (pixel_in R w (shape_of (w / 2 ^ 20 % 16))) ≡ Whole p → Reads R w p
+    low : (t : Bool) → leb (2 ^ word_bits) w ≡ t → pick t None (pixel_in R w (shape_of (w / 2 ^ 20 % 16))) ≡ Some p → Reads R w p
     low true q e = broken-not p e
     low false q e = known (shape_of (w / 2 ^ 20 % 16)) refl (leb-false _ _ q) e
 
 -- what is read is a lawful pixel
-pub read_fits : (R w : ℕ) (p : Pixel) → read_word R w ≡ Whole p → Fits R p
+pub read_fits : (R w : ℕ) (p : Pixel) → read_word R w ≡ Some p → Fits R p
 read_fits R w p e =
     let h = reads R w p e in
     record {
@@ -152,14 +151,14 @@ parts w h =
     whole w s r e = omega arith
 
 -- and packs to the word that was read
-pub read_word_lem : (R w : ℕ) (p : Pixel) → read_word R w ≡ Whole p → word_of p ≡ w
+pub read_word_lem : (R w : ℕ) (p : Pixel) → read_word R w ≡ Some p → word_of p ≡ w
 read_word_lem R w p e =
     let h = reads R w p e in
     rw (h.value_is, h.opacity_is, number_of_lem (w / 2 ^ 20 % 16) p.shape h.shape_is, h.radius_is) (parts w h.word_low)
 
 -- THE ENTRY
 -- a lawful entry is read back
-pub entry_back : (z : Size) (e : Entry) → e.place < places z → Fits z.reach e.pixel → read_entry z (entry_of e) ≡ Logged e
+pub entry_back : (z : Size) (e : Entry) → e.place < places z → Fits z.reach e.pixel → read_entry z (entry_of e) ≡ Some e
 unfolding read_entry
 entry_back z e h f =
     let small : word_of e.pixel < 2 ^ word_bits = word_small z.reach e.pixel f in
@@ -176,28 +175,28 @@ entry_back z e h f =
     low : (w i : ℕ) → w < 2 ^ word_bits → (w + 2 ^ word_bits * i) % 2 ^ word_bits ≡ w
     low w i h = omega arith
 
-pub unreadable_not : {P : Type 0} (e : Entry) → Unreadable ≡ Logged e → P
+pub unreadable_not : {P : Type 0} (e : Entry) → None ≡ Some e → P
 unreadable_not e q = let z : ◌≡◌ {A = ℕ} 0 1 = cc in absurd (omega arith)
 
 -- what is read is lawful and packs to the entry that was read
-pub entry_read : (z : Size) (n : ℕ) (e : Entry) → read_entry z n ≡ Logged e
+pub entry_read : (z : Size) (n : ℕ) (e : Entry) → read_entry z n ≡ Some e
     → (e.place < places z) × Fits z.reach e.pixel × (entry_of e ≡ n)
 unfolding read_entry
 entry_read z n e h = high (leb (places z) (n / 2 ^ word_bits)) refl h
   where
-    whole : (u : Unpacked) → read_word z.reach (n % 2 ^ word_bits) ≡ u → n / 2 ^ word_bits < places z
-        → entry_in (n / 2 ^ word_bits) u ≡ Logged e
+    whole : (u : Option Pixel) → read_word z.reach (n % 2 ^ word_bits) ≡ u → n / 2 ^ word_bits < places z
+        → entry_in (n / 2 ^ word_bits) u ≡ Some e
         → (e.place < places z) × Fits z.reach e.pixel × (entry_of e ≡ n)
-    whole Broken q l h = unreadable_not e h
-    whole (Whole p) q l h =
+    whole None q l h = unreadable_not e h
+    whole (Some p) q l h =
         let place : e.place ≡ n / 2 ^ word_bits = cc in
         let pixel : p ≡ e.pixel = cc in
-        let r : read_word z.reach (n % 2 ^ word_bits) ≡ Whole e.pixel = q ∙ ap Whole pixel in
+        let r : read_word z.reach (n % 2 ^ word_bits) ≡ Some e.pixel = q ∙ ap Some pixel in
         let w : word_of e.pixel ≡ n % 2 ^ word_bits = read_word_lem z.reach (n % 2 ^ word_bits) e.pixel r in
         (rw place l, read_fits z.reach (n % 2 ^ word_bits) e.pixel r, omega (arith, w, place))
 
     high : (t : Bool) → leb (places z) (n / 2 ^ word_bits) ≡ t
-        → pick t Unreadable (entry_in (n / 2 ^ word_bits) (read_word z.reach (n % 2 ^ word_bits))) ≡ Logged e
+        → pick t None (entry_in (n / 2 ^ word_bits) (read_word z.reach (n % 2 ^ word_bits))) ≡ Some e
         → (e.place < places z) × Fits z.reach e.pixel × (entry_of e ≡ n)
     high true q h = unreadable_not e h
     high false q h = whole (read_word z.reach (n % 2 ^ word_bits)) refl (leb-false _ _ q) h

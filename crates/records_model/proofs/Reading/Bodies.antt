@@ -1,4 +1,5 @@
 -- What a record reads of its body: no more than the bytes that its kind has, and each of them a byte.
+use Rattle.std.specs.Prelude.{Option, Some, None}
 use mathlib.Core.Path.{◌≡◌}
 use mathlib.Core.Bool.{Bool, true, false}
 use mathlib.Core.List.{List, [], ◌∷◌}
@@ -8,9 +9,8 @@ use lib.Dec.{eqb, lit<}
 use lib.ListN.{get_or, take, drop}
 use lib.Seq.{get_or-take, get_or-drop}
 use Rattle.kernels_model.specs.Choice.{pick}
-use Rattle.kernels_model.specs.declared.shape.ShapeRead.{ShapeRead}
-use Rattle.kernels_model.specs.declared.shape.ShapeRead.TheVariants.{Known, Unknown}
 use Rattle.kernels_model.specs.Shape.{shape_of}
+use Rattle.kernels_model.specs.declared.shape.Shape.{Shape}
 use Rattle.records_model.specs.Fixed.{open_body, put_body}
 use Rattle.records_model.specs.Record.{Record, Open, Put, NoShape, Undo, Show, pair, put_record, record_of}
 
@@ -39,8 +39,8 @@ front_open b =
       get_or-take open_body b 4 0 (omega arith),
     )
 
-front_put_as : (s : ShapeRead) (b : List ℕ) → put_record s b ≡ put_record s (take put_body b)
-front_put_as (Known s) b =
+front_put_as : (s : Option Shape) (b : List ℕ) → put_record s b ≡ put_record s (take put_body b)
+front_put_as (Some s) b =
     rw (
       front_pair put_body 0 b (omega arith),
       front_pair put_body 2 b (omega arith),
@@ -48,7 +48,7 @@ front_put_as (Known s) b =
       get_or-take put_body b 6 0 (omega arith),
       get_or-take put_body b 8 0 (omega arith),
     )
-front_put_as Unknown b =
+front_put_as None b =
     rw (front_pair put_body 0 b (omega arith), front_pair put_body 2 b (omega arith), front_pair put_body 4 b (omega arith))
 
 pub front_put : (b : List ℕ) → record_of 2 b ≡ record_of 2 (take put_body b)
@@ -63,9 +63,9 @@ LawfulRecord (NoShape p) = Unit {0}
 LawfulRecord Undo = Unit {0}
 LawfulRecord Show = Unit {0}
 
-put_lawful : (s : ShapeRead) (b : List ℕ) → AllBytes b → LawfulRecord (put_record s b)
-put_lawful (Known s) b h = h 6
-put_lawful Unknown b h = tt
+put_lawful : (s : Option Shape) (b : List ℕ) → AllBytes b → LawfulRecord (put_record s b)
+put_lawful (Some s) b h = h 6
+put_lawful None b h = tt
 
 pick_lawful : (t : Bool) (r q : Record) → LawfulRecord r → LawfulRecord q → LawfulRecord (pick t r q)
 pick_lawful true r q p o = p

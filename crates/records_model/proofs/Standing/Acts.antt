@@ -1,4 +1,5 @@
 -- Each record that a run can meet does to the machine what it does to the notebook.
+use Rattle.std.specs.Prelude.{Ok, Err}
 use mathlib.Core.Path.{◌≡◌, refl, ap, ◌∙◌}
 use mathlib.Core.List.{[]}
 use Prim.Native.Nat.{ℕ, ◌*◌, ◌≤◌, ◌<◌}
@@ -8,8 +9,7 @@ use lib.ListN.{length, replicate}
 use Rattle.kernels_model.proofs.Numbers.Choices.{by_lt}
 use Rattle.plate_model.specs.Layout.{padded, places}
 use Rattle.plate_model.specs.declared.size.Size.{Size}
-use Rattle.plate_model.specs.declared.state.Outcome.{Outcome}
-use Rattle.plate_model.specs.declared.state.Outcome.TheVariants.{Accepted, Refused}
+use Rattle.plate_model.specs.Refusal.{Outcome}
 use Rattle.plate_model.specs.declared.state.Refusal.TheVariants.{Sizes as BadSizes}
 use Rattle.plate_model.specs.Refusal.{refuse_if, sizes_check, lent_check, open_check}
 use Rattle.plate_model.specs.Lent.{state_of, lengths_of}
@@ -36,9 +36,9 @@ use Rattle.plate_model.specs.Fixed.{planes_in_all}
 
 -- OPEN
 module _ (k : ℕ) (z : Size) (b : Buffers) (s : RightLengths b) where
-  open_sizes : ((next : Outcome) → sizes_check z next ≡ Refused BadSizes) → Agrees k (opens z) (performed (ToCall (ToOpen z)) b)
+  open_sizes : ((next : Outcome) → sizes_check z next ≡ Err BadSizes) → Agrees k (opens z) (performed (ToCall (ToOpen z)) b)
   unfolding opens performed requested request_call open_call open_by open_check answered opening reply_text
-  open_sizes bad = rw (bad Accepted, bad (lent_check z (lengths_of (lent_of z b)) Accepted)) (refl, refl)
+  open_sizes bad = rw (bad (Ok tt), bad (lent_check z (lengths_of (lent_of z b)) (Ok tt))) (refl, refl)
 
   open_cells : ((next : Outcome) → sizes_check z next ≡ next) → cells_top < padded z
       → Agrees k (opens z) (performed (ToCall (ToOpen z)) b)
@@ -47,22 +47,22 @@ module _ (k : ℕ) (z : Size) (b : Buffers) (s : RightLengths b) where
   open_cells fine h =
       let none : lent_cells z ≡ 0 = rw (lt-ltb cells_top (padded z) h) in
       rw (
-        fine Accepted,
-        fine (lent_check z (lengths_of (lent_of z b)) Accepted),
+        fine (Ok tt),
+        fine (lent_check z (lengths_of (lent_of z b)) (Ok tt)),
         lt-ltb cells_top (padded z) h,
         ne_eqb 0 (planes_in_all * padded z) (omega arith),
       )
       (refl, refl)
 
   open_passes : ((next : Outcome) → sizes_check z next ≡ next) → padded z ≤ cells_top
-      → open_check z (lengths_of (lent_of z b)) ≡ Accepted
+      → open_check z (lengths_of (lent_of z b)) ≡ Ok tt
   unfolding open_check plate_front
   open_passes fine h =
       let cells = has_room z (padded z) h in
       let pixels = has_room z (places z) h in
       let small = places_few z in
-      fine (lent_check z (lengths_of (lent_of z b)) Accepted)
-      ∙ lent_pass z (lengths_of (lent_of z b)) Accepted
+      fine (lent_check z (lengths_of (lent_of z b)) (Ok tt))
+      ∙ lent_pass z (lengths_of (lent_of z b)) (Ok tt)
       (record {
         planes_are =
             part_length (plane_cells z) b.planes (omega (arith, s.planes_are)) ∙ ap (λ (n : ℕ). planes_in_all * n) cells;
@@ -86,7 +86,7 @@ module _ (k : ℕ) (z : Size) (b : Buffers) (s : RightLengths b) where
       let mirrors : left_by (open_call z l) ≡ mirror z log_room planes grid [] = rw log_long at (open_mirror z l e) in
       let kept : Mirrored z log_room planes grid [] = rw log_long at (open_kept z l e) in
       let state : (open_call z l).answer.state ≡ state_of z 0 = ap (λ (p : Plate). p.state) mirrors in
-      rw (fine Accepted, le-ltb cells_top (padded z) h, accepted, state)
+      rw (fine (Ok tt), le-ltb cells_top (padded z) h, accepted, state)
       (refl, open_again z b (open_call z l).buffers planes grid [] h s (ap (λ (p : Plate). p.buffers) mirrors) kept)
 
   pub open_agrees : Agrees k (opens z) (performed (ToCall (ToOpen z)) b)

@@ -1,5 +1,6 @@
 -- What a record makes of the machine and its buffers is what the paper's rules make of the notebook, while the plate in the front
 -- of the buffers mirrors the notebook.
+use Rattle.std.specs.Prelude.{Ok}
 use mathlib.Core.Path.{◌≡◌, refl, ap, sym, ◌∙◌}
 use mathlib.Core.List.{List, ◌++◌, append-nil}
 use Prim.Native.Nat.{ℕ, zero, suc, ◌*◌, ◌≤◌}
@@ -16,8 +17,7 @@ use Rattle.plate_model.specs.declared.size.Size.{Size}
 use Rattle.plate_model.specs.declared.word.Pixel.{Pixel}
 use Rattle.plate_model.specs.declared.word.Entry.{Entry}
 use Rattle.plate_model.specs.Word.{word_of}
-use Rattle.plate_model.specs.declared.state.Outcome.{Outcome}
-use Rattle.plate_model.specs.declared.state.Outcome.TheVariants.{Accepted}
+use Rattle.plate_model.specs.Refusal.{Outcome}
 use Rattle.plate_model.specs.Lent.{state_of, Lent, lent, Views, views}
 use Rattle.plate_model.specs.Refusal.{Returned, length_check, views_check, show_check}
 use Rattle.plate_model.specs.Calls.{Left, Shown, sum_at, show_by, show_call}
@@ -174,7 +174,7 @@ views_in z v b = showing b (views_back z v (views_of b))
 
 -- what it is lent has the right lengths
 views_fit : (z : Size) (b : Buffers) → padded z ≤ cells_top → RightLengths b → let v = lent_views z b in
-    views_check z (length v.scratch) (length v.values) (length v.mattes) ≡ Accepted
+    views_check z (length v.scratch) (length v.values) (length v.mattes) ≡ Ok tt
 unfolding views_front views_check
 views_fit z b h s =
     let cells = has_room z (padded z) h in
@@ -191,8 +191,8 @@ views_fit z b h s =
 
 -- so it is accepted
 shown_by : (z : Size) (n : ℕ) (planes : List ℕ) (v : Views) → LawfulSize z → length planes ≡ planes_in_all * padded z
-    → views_check z (length v.scratch) (length v.values) (length v.mattes) ≡ Accepted
-    → show_call (state_of z n) planes v ≡ show_by Accepted (state_of z n) planes v
+    → views_check z (length v.scratch) (length v.values) (length v.mattes) ≡ Ok tt
+    → show_call (state_of z n) planes v ≡ show_by (Ok tt) (state_of z n) planes v
 unfolding show_call show_check
 shown_by z n planes v lawful cells e =
     let views = views_check z (length v.scratch) (length v.values) (length v.mattes) in
@@ -204,7 +204,7 @@ shown_by z n planes v lawful cells e =
 
 module _ (z : Size) (n : ℕ) (planes : List ℕ) (b : Buffers) (h : padded z ≤ cells_top) (s : RightLengths b) where
   abbrev seen : Views
-  seen = (show_by Accepted (state_of z n) planes (lent_views z b)).seen
+  seen = (show_by (Ok tt) (state_of z n) planes (lent_views z b)).seen
 
   -- and keeps the lengths of what it is lent
   scratch_long : length seen.scratch ≡ scratch_cells z
@@ -261,7 +261,7 @@ show_stands z b v planes grid pile t h s e a =
 pub show_agree : (k : ℕ) (z : Size) (planes : List ℕ) (grid : List Pixel) (pile : List Entry) (b : Buffers)
     → padded z ≤ cells_top → RightLengths b
     → Mirrored z log_room planes grid pile → lent_of z b ≡ held_by log_room planes grid pile
-    → Agrees k (noted k (book_of z log_room grid pile) (book_show_by Accepted (book_of z log_room grid pile)))
+    → Agrees k (noted k (book_of z log_room grid pile) (book_show_by (Ok tt) (book_of z log_room grid pile)))
     (performed (ToShow (state_of z (length pile))) b)
 unfolding performed show_requested going_on reply_text show_by plate_front book_show
 show_agree k z planes grid pile b h s kept e =
@@ -271,9 +271,9 @@ show_agree k z planes grid pile b h s kept e =
     let fit = views_fit z b h s in
     let part : take (plane_cells z) b.planes ≡ planes = ap (λ (l : Lent). l.planes) e in
     let shown = shown_by z n planes v kept.lawful kept.cells_count fit in
-    let left : book_show book v ≡ book_show_by Accepted book = ap (λ (o : Outcome). book_show_by o book) fit in
-    let by = show_by Accepted (state_of z n) planes v in
-    let a : Agree z log_room (shown_to (mirror z log_room planes grid pile) by) (book_show_by Accepted book) =
+    let left : book_show book v ≡ book_show_by (Ok tt) book = ap (λ (o : Outcome). book_show_by o book) fit in
+    let by = show_by (Ok tt) (state_of z n) planes v in
+    let a : Agree z log_room (shown_to (mirror z log_room planes grid pile) by) (book_show_by (Ok tt) book) =
     rw (left, shown) at (show_agrees z log_room planes grid pile kept v) in
     rw (part, shown) (
       seen_text z n planes b h s k ∙ ap (report_text k z) a.same_report,

@@ -1,4 +1,5 @@
 -- FROM BYTES TO TEXT: what the machine writes is the text of the paper's rules, by induction over the records of the input.
+use Rattle.std.specs.Prelude.{Some, None}
 use mathlib.Core.Path.{◌≡◌, refl, ap, ◌∙◌}
 use mathlib.Core.Bool.{false}
 use mathlib.Core.List.{List, [], ◌∷◌, append-nil}
@@ -11,7 +12,7 @@ use Rattle.kernels_model.proofs.Numbers.Choices.{by_lt}
 use Rattle.kernels_model.specs.Listed.{zeros}
 use Rattle.plate_model.specs.Notebook.{Book}
 use Rattle.plate_model.specs.Lists.{Byte, codes}
-use Rattle.records_model.specs.Record.{Kind, Bytes, NoKind, body_length, record_of, next, with_body, items_by, items_of}
+use Rattle.records_model.specs.Record.{Kind, body_length, record_of, next, with_body, items_by, items_of}
 use Rattle.records_model.specs.Run.{CurrentBook, not_open, open_with, Act, stop, go, act, stop_text, then_text, text_from}
 use Rattle.records_model.specs.Run.{paper_text}
 use Rattle.records_model.specs.Machine.{Stage, Closed, machine, Buffers, Did, reply_text, task_of, performed, Progress}
@@ -60,7 +61,7 @@ known_kind : (n : ℕ) → Follows n → (m : ℕ) → m ≤ longest_body → (k
     → (s : Stage) (body : List ℕ) (k : ℕ) (b : Buffers) (d : CurrentBook) (xs : List ℕ) → length xs < n
     → Stands s b d → length body ≡ longest_body → k + 1 + length xs < 2 ^ 64 → AllBytes xs
     → onward (fed_taken (settled_of (machine s kind 0 m body (k + 1))) b) xs
-    ≡ text_from k d (with_body (Bytes m) xs (λ l. next (record_of kind (take l xs)) (items_by n (drop l xs))))
+    ≡ text_from k d (with_body (Some m) xs (λ l. next (record_of kind (take l xs)) (items_by n (drop l xs))))
 unfolding text_from
 known_kind n follows m few kind front s body k b d xs short stands long fits small =
     body_read s (stands_live s b d stands) kind 0 m body (k + 1) b xs m (omega arith) few
@@ -97,7 +98,7 @@ module _ (n : ℕ) (follows : Follows n) (s : Stage) (whole : ℕ) (body : List 
       onward (fed_taken (begun_by (body_length x) (machine s x whole whole body (k + 1))) b) xs
       ≡ text_from k d (with_body (body_length x) xs (λ l. next (record_of x (take l xs)) (items_by n (drop l xs))))
 
-  no_kind : (x : ℕ) → body_length x ≡ NoKind → Kinded x
+  no_kind : (x : ℕ) → body_length x ≡ None → Kinded x
   unfolding begun_by text_from performed reply_text
   no_kind x e = rw (e, run_ended x whole whole body (k + 1) b xs) (append-nil (stop_text (k + 1) Kind))
 

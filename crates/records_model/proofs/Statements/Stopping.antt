@@ -1,4 +1,5 @@
 -- A record stops a run by the first of its rows of the table that applies, and where none does the run goes on.
+use Rattle.std.specs.Prelude.{Option, Some, None, Ok, Err}
 use mathlib.Core.Path.{◌≡◌, refl, sym}
 use mathlib.Core.Logic.{inl, inr, ⊎_elim}
 use mathlib.Core.List.{List, [], ◌∷◌}
@@ -7,21 +8,19 @@ use native.Mathlib.Omega.{arith}
 use lib.ListN.{get_or, length, take, drop}
 use borrow.Author.Tests.{lt-ltb, le-ltb}
 use Rattle.kernels_model.specs.Rows.{FirstOf}
-use Rattle.kernels_model.specs.declared.shape.ShapeRead.{ShapeRead}
-use Rattle.kernels_model.specs.declared.shape.ShapeRead.TheVariants.{Known, Unknown}
 use Rattle.kernels_model.specs.Shape.{shape_of}
+use Rattle.kernels_model.specs.declared.shape.Shape.{Shape}
 use Rattle.kernels_model.proofs.Numbers.Choices.{by_lt}
 use Rattle.plate_model.specs.Layout.{padded}
 use Rattle.plate_model.specs.declared.size.Size.{Size}
-use Rattle.plate_model.specs.declared.state.Outcome.{Outcome}
-use Rattle.plate_model.specs.declared.state.Outcome.TheVariants.{Accepted, Refused}
+use Rattle.plate_model.specs.Refusal.{Outcome}
 use Rattle.plate_model.specs.declared.state.Refusal.TheVariants.{Sizes as BadSizes}
 use Rattle.plate_model.specs.Refusal.{sizes_check}
 use Rattle.plate_model.specs.Notebook.{Book, open_book}
 use Rattle.plate_model.proofs.Checks.Rows.{by_check}
 use Rattle.plate_model.proofs.Checks.Conditions.{sizes_checks}
 use Rattle.records_model.specs.Fixed.{cells_top, log_room, open_body, put_body}
-use Rattle.records_model.specs.Record.{Record, Open, Undo, Show, Stop, Sizes, Kind, Body, Order, Cells, Bytes, NoKind}
+use Rattle.records_model.specs.Record.{Record, Open, Undo, Show, Stop, Sizes, Kind, Body, Order, Cells}
 use Rattle.records_model.specs.Record.{body_length, put_record, record_of, items_by}
 use Rattle.records_model.specs.Run.{CurrentBook, not_open, open_with, stop, go, opens, act, stop_text, text_from}
 use Rattle.records_model.specs.Stops.{KindUnknown, BodyShort, OutOfOrder, open_size, record_rows, GoesOnAfter, StopsByRows}
@@ -31,11 +30,11 @@ module _ (k n : ℕ) (d : CurrentBook) (kind : ℕ) (rest : List ℕ) where
   abbrev met : List ℕ
   met = text_from k d (items_by (suc n) (kind ∷ rest))
 
-  unknown_stops : body_length kind ≡ NoKind → met ≡ stop_text (k + 1) Kind
+  unknown_stops : body_length kind ≡ None → met ≡ stop_text (k + 1) Kind
   unfolding text_from items_by
   unknown_stops e = rw e
 
-  module _ (m : ℕ) (e : body_length kind ≡ Bytes m) where
+  module _ (m : ℕ) (e : body_length kind ≡ Some m) where
     short_stops : length rest < m → met ≡ stop_text (k + 1) Body
     unfolding text_from items_by
     short_stops h = rw (e, lt-ltb (length rest) m h)
@@ -68,22 +67,22 @@ unfolding BodyShort
 body_whole kind rest a b = ⊎_elim (λ p. omega (arith, a p.0, p.1)) (λ p. omega (arith, b p.0, p.1))
 
 -- PUT, whether its byte names a shape or not
-put_stops : (k n : ℕ) (rest : List ℕ) → put_body ≤ length rest → (s : ShapeRead)
+put_stops : (k n : ℕ) (rest : List ℕ) → put_body ≤ length rest → (s : Option Shape)
     → record_of 2 (take put_body rest) ≡ put_record s (take put_body rest)
     → text_from k not_open (items_by (suc n) (2 ∷ rest)) ≡ stop_text (k + 1) Order
 unfolding act
-put_stops k n rest whole Unknown read = act_stops k n not_open 2 rest put_body refl whole _ read Order refl
-put_stops k n rest whole (Known s) read = act_stops k n not_open 2 rest put_body refl whole _ read Order refl
+put_stops k n rest whole None read = act_stops k n not_open 2 rest put_body refl whole _ read Order refl
+put_stops k n rest whole (Some s) read = act_stops k n not_open 2 rest put_body refl whole _ read Order refl
 
-put_goes : (k n : ℕ) (b : Book) (rest : List ℕ) → put_body ≤ length rest → (s : ShapeRead)
+put_goes : (k n : ℕ) (b : Book) (rest : List ℕ) → put_body ≤ length rest → (s : Option Shape)
     → record_of 2 (take put_body rest) ≡ put_record s (take put_body rest)
     → GoesOnAfter k n (open_with b) 2 rest
 unfolding act
-put_goes k n b rest whole Unknown read = act_goes k n (open_with b) 2 rest put_body refl whole _ read _ _ refl
-put_goes k n b rest whole (Known s) read = act_goes k n (open_with b) 2 rest put_body refl whole _ read _ _ refl
+put_goes k n b rest whole None read = act_goes k n (open_with b) 2 rest put_body refl whole _ read _ _ refl
+put_goes k n b rest whole (Some s) read = act_goes k n (open_with b) 2 rest put_body refl whole _ read _ _ refl
 
 -- what is read of its shape
-abbrev shape_read : List ℕ → ShapeRead
+abbrev shape_read : List ℕ → Option Shape
 shape_read rest = shape_of (get_or (take put_body rest) 7 0)
 
 put_read_lem : (rest : List ℕ) → record_of 2 (take put_body rest) ≡ put_record (shape_read rest) (take put_body rest)
@@ -96,17 +95,17 @@ unfolding record_of
 open_read rest = sym (front_open rest)
 
 -- what an open does where no plate is open, by its sizes and its cells
-opens-stop : (z : Size) → ((next : Outcome) → sizes_check z next ≡ Refused BadSizes) → opens z ≡ stop Sizes
+opens-stop : (z : Size) → ((next : Outcome) → sizes_check z next ≡ Err BadSizes) → opens z ≡ stop Sizes
 unfolding opens
-opens-stop z bad = rw (bad Accepted)
+opens-stop z bad = rw (bad (Ok tt))
 
 opens_full : (z : Size) → ((next : Outcome) → sizes_check z next ≡ next) → cells_top < padded z → opens z ≡ stop Cells
 unfolding opens
-opens_full z fine h = rw (fine Accepted, lt-ltb cells_top (padded z) h)
+opens_full z fine h = rw (fine (Ok tt), lt-ltb cells_top (padded z) h)
 
 opens-go : (z : Size) → ((next : Outcome) → sizes_check z next ≡ next) → padded z ≤ cells_top → opens z ≡ go [] (open_book z log_room)
 unfolding opens
-opens-go z fine h = rw (fine Accepted, le-ltb cells_top (padded z) h)
+opens-go z fine h = rw (fine (Ok tt), le-ltb cells_top (padded z) h)
 
 -- BY THE CURRENT NOTEBOOK
 abbrev Stopped : ℕ → ℕ → CurrentBook → ℕ → List ℕ → Type 0
@@ -115,12 +114,12 @@ Stopped k n d kind rest =
     (record_rows d kind rest)
 
 -- an unknown kind, and a body that is cut short
-by_kind : (k n : ℕ) (d : CurrentBook) (kind : ℕ) (rest : List ℕ) → KindUnknown kind → body_length kind ≡ NoKind
+by_kind : (k n : ℕ) (d : CurrentBook) (kind : ℕ) (rest : List ℕ) → KindUnknown kind → body_length kind ≡ None
     → Stopped k n d kind rest
 unfolding FirstOf
 by_kind k n d kind rest h e = inl (h, unknown_stops k n d kind rest e)
 
-by_body : (k n : ℕ) (d : CurrentBook) (kind : ℕ) (rest : List ℕ) (m : ℕ) → ¬ (KindUnknown kind) → body_length kind ≡ Bytes m
+by_body : (k n : ℕ) (d : CurrentBook) (kind : ℕ) (rest : List ℕ) (m : ℕ) → ¬ (KindUnknown kind) → body_length kind ≡ Some m
     → BodyShort kind rest → length rest < m → Stopped k n d kind rest
 unfolding FirstOf
 by_body k n d kind rest m known e short h = inr (known, inl (short, short_stops k n d kind rest m e h))

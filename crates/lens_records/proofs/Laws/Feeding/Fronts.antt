@@ -6,7 +6,8 @@ use lib.ListN.{take, drop}
 use lib.Seq.{take-add}
 use Rattle.records_model.specs.declared.machine.Machine.{Machine}
 use Rattle.records_model.specs.declared.advance.Advanced.{Advanced}
-use Rattle.records_model.specs.Machine.{Buffers, Progress, fed, fed_then, feed_all, AdvanceLeft, advance_left, advance_call}
+use Rattle.records_model.specs.declared.buffers.Buffers.{Buffers}
+use Rattle.records_model.specs.Machine.{Progress, fed, fed_then, feed_all, AdvanceLeft, advance_left, advance_call}
 use Rattle.records_model.proofs.Running.Advancing.{fed-both, fed_after_lem, call_goes_on}
 use Rattle.lens_records.specs.Feeding.{FedTo, FedFront}
 

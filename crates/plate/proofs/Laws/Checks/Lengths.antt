@@ -1,10 +1,10 @@
 -- What the code may count on when its own checks accept: by lengths alone, of a fill, of a show and of what is kept.
+use Rattle.std.specs.Prelude.{Ok}
 use Rattle.std.proofs.Common.{◌≡◌, ℕ, ◌*◌}
 use Rattle.plate_model.specs.declared.size.Size.{Size}
 use Rattle.plate_model.specs.Layout.{padded, places, sums_in_all}
 use Rattle.plate_model.specs.declared.state.State.{State}
 use Rattle.plate_model.specs.declared.lent.LentLengths.{LentLengths}
-use Rattle.plate_model.specs.declared.state.Outcome.TheVariants.{Accepted}
 use Rattle.plate_model.specs.Refusal.{views_check, show_check, canvas_check, kept_check}
 use Rattle.plate_model.specs.Table.{LawfulSize, LentFor}
 use Rattle.plate_model.specs.Fixed.{planes_in_all, scratch_planes}
@@ -23,7 +23,7 @@ pub record FillAccepted (s : State) (n : LentLengths) (values opacities depths :
   pub depths_are : depths ≡ places s.size
 
 pub fill_accepted : (s : State) (n : LentLengths) (values opacities depths : ℕ)
-    → fill_lengths s n values opacities depths ≡ Accepted
+    → fill_lengths s n values opacities depths ≡ Ok tt
     → FillAccepted s n values opacities depths
 unfolding fill_lengths
 fill_accepted s n values opacities depths e =
@@ -44,13 +44,13 @@ pub record ShowAccepted (s : State) (planes scratch values mattes : ℕ) : Type 
   pub values_are : values ≡ places s.size
   pub mattes_are : mattes ≡ places s.size
 
-pub show_accepted : (s : State) (planes scratch values mattes : ℕ) → show_check s planes scratch values mattes ≡ Accepted
+pub show_accepted : (s : State) (planes scratch values mattes : ℕ) → show_check s planes scratch values mattes ≡ Ok tt
     → ShowAccepted s planes scratch values mattes
 unfolding show_check views_check
 show_accepted s planes scratch values mattes e =
     let z = s.size in
     let p = sizes_passed z _ e in
-    let q = (check_passed (views_checks z planes scratch values mattes) Accepted p.1).0 in
+    let q = (check_passed (views_checks z planes scratch values mattes) (Ok tt) p.1).0 in
     record {
       lawful = p.0;
       planes_are = q.0;
@@ -66,10 +66,10 @@ pub record KeptAccepted (z : Size) (sums values mattes : ℕ) : Type 0 where
   pub values_are : values ≡ places z
   pub mattes_are : mattes ≡ places z
 
-pub kept_accepted : (z : Size) (sums values mattes : ℕ) → kept_check z sums values mattes ≡ Accepted
+pub kept_accepted : (z : Size) (sums values mattes : ℕ) → kept_check z sums values mattes ≡ Ok tt
     → KeptAccepted z sums values mattes
 unfolding kept_check canvas_check
 kept_accepted z sums values mattes e =
     let p = sizes_passed z _ e in
-    let q = (check_passed (canvas_checks z sums values mattes) Accepted p.1).0 in
+    let q = (check_passed (canvas_checks z sums values mattes) (Ok tt) p.1).0 in
     record { lawful = p.0; sums_are = q.0; values_are = q.1.0; mattes_are = q.1.1 }

@@ -1,17 +1,21 @@
--- Lists scanned row by row for a number that passes a test: what a scan says that passed all rows, and one that stopped.
-use Rattle.std.proofs.Common.{◌≡◌, ℕ, zero, suc, ◌+◌, ◌*◌, ◌<◌, ◌≤◌, Bool, true, false, ltb, List, [], ◌∷◌, length, get_or, sym, refl, ◌∙◌, mul-le-mul_right, arith, le-ltb, lt-ltb, le-leb}
+-- Lists scanned for a number that passes a test: the library's scan and the refusals', and what bounds say of a scan that found none.
+use Rattle.std.proofs.Common.{◌≡◌, ℕ, zero, suc, ◌<◌, ◌≤◌, Bool, true, false, ◌||◌, ◌&&◌, ltb, leb, List, [], ◌∷◌, length, get_or, sym, refl, ◌∙◌, arith, le-ltb, lt-ltb, le-leb}
+use Rattle.std.specs.List.{list_any}
 use borrow.Author.Tests.{lt-leb}
 use Rattle.kernels_model.specs.Choice.{pick}
 use Rattle.kernels_model.proofs.Numbers.Choices.{by_lt}
 use Rattle.plate_model.specs.Refusal.{any_of, any_above, is_between}
 use Rattle.plate.specs.Filling.{number_top}
 use Rattle.plate_model.proofs.Checks.Conditions.{true-not}
-use Rattle.plate_model.proofs.Numbers.Extents.{row_in}
 
 -- TESTS
 neither : (t u : Bool) → pick t true u ≡ false → (t ≡ false) × (u ≡ false)
 neither true u e = true-not e
 neither false u e = (refl, e)
+
+or_pick : (t u : Bool) → (t || u) ≡ pick t true u
+or_pick true u = refl
+or_pick false u = refl
 
 either : (t : Bool) → pick t true true ≡ true
 either true = refl
@@ -27,41 +31,27 @@ unfolding any_of
 none_passes t [] h = refl
 none_passes t (n ∷ ns) h = rw (h 0 (omega arith)) (none_passes t ns (λ i l. h (suc i) (omega arith)))
 
-one_passes : (t : ℕ → Bool) (ns : List ℕ) (k : ℕ) → k < length ns → t (get_or ns k 0) ≡ true → any_of t ns ≡ true
-unfolding any_of
-one_passes t [] k h a = absurd (omega arith)
-one_passes t (n ∷ ns) zero h a = rw a
-one_passes t (n ∷ ns) (suc k) h a = rw (one_passes t ns k (omega arith) a) (either (t n))
-
 none_of : (t : ℕ → Bool) (ns : List ℕ) → any_of t ns ≡ false → NoneTo t ns (length ns)
 unfolding any_of
 none_of t [] e i l = absurd (omega arith)
 none_of t (n ∷ ns) e zero l = (neither (t n) (any_of t ns) e).0
 none_of t (n ∷ ns) e (suc i) l = none_of t ns (neither (t n) (any_of t ns) e).1 i (omega arith)
 
--- SCANS
--- after the last row
-pub none_found : (t : ℕ → Bool) (ns : List ℕ) (w h y : ℕ) → length ns ≡ w * h → h ≤ y → NoneTo t ns (y * w) → any_of t ns ≡ false
-none_found t ns w h y e l p = none_passes t ns (λ i q. p i (omega (arith, mul-le-mul_right w l)))
+-- a test of the library on the list is the refusal's, where both tests answer alike
+pub any_is : (t u : ℕ → Bool) → ((n : ℕ) → t n ≡ u n) → (ns : List ℕ) → list_any t ns ≡ any_of u ns
+unfolding any_of
+any_is t u e [] = refl
+any_is t u e (n ∷ ns) = rw (e n, any_is t u e ns) (or_pick (u n) (any_of u ns))
 
--- each of the first k numbers has 32 bits
-abbrev pub SmallTo : List ℕ → ℕ → Type 0
-SmallTo ns k = (i : ℕ) → i < k → get_or ns i 0 ≤ number_top
+-- between two bounds, by two comparisons
+pub between_test : (low top n : ℕ) → (ltb low n && leb n top) ≡ is_between low top n
+unfolding is_between
+between_test low top n =
+    by_lt low n
+    (λ l. rw (lt-leb n low l, lt-ltb low n l))
+    (λ l. rw (le-leb n low l, le-ltb low n l))
 
-small_past : (ns : List ℕ) (k : ℕ) → length ns ≤ k → SmallTo ns k → (i : ℕ) → get_or ns i 0 ≤ number_top
-small_past [] k h s i = omega arith
-small_past (n ∷ ns) k h s zero = s 0 (omega arith)
-small_past (n ∷ ns) zero h s (suc i) = absurd (omega arith)
-small_past (n ∷ ns) (suc k) h s (suc i) = small_past ns k (omega arith) (λ j l. s (suc j) (omega arith)) i
-
-pub small_all : (ns : List ℕ) (w h y : ℕ) → length ns ≡ w * h → h ≤ y → SmallTo ns (y * w) → (i : ℕ) → get_or ns i 0 ≤ number_top
-small_all ns w h y e l s = small_past ns (y * w) (omega (arith, mul-le-mul_right w l)) s
-
--- at a number that passes the test
-pub one_found : (t : ℕ → Bool) (ns : List ℕ) (w h x y : ℕ) → length ns ≡ w * h → x < w → y < h → t (get_or ns (y * w + x) 0) ≡ true
-    → any_of t ns ≡ true
-one_found t ns w h x y e p q a = one_passes t ns (y * w + x) (omega (arith, row_in y w h q)) a
-
+-- DEPTHS
 -- numbers of 32 bits: above the one bound and not above the largest is above the bound
 above_is : (b n : ℕ) → n ≤ number_top → is_between b number_top n ≡ ltb b n
 unfolding is_between

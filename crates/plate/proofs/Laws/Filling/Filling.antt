@@ -1,10 +1,10 @@
 -- A plate filled pixel by pixel, and what a fill's checks tell.
+use Rattle.std.specs.Prelude.{Result, Ok, Err}
 use Rattle.std.proofs.Common.{◌≡◌, ℕ, ◌+◌, ◌<◌, ◌≤◌, min, true, List, map, length, get_or, set, sym, refl, ap, ◌∙◌, add-one, arith, get_or-set_other, get_or-set_same, ext_get_or, below_more}
 use lib.ListN.{length-map}
 use Rattle.kernels_model.specs.Shape.{shape_of, top_under}
 use Rattle.kernels_model.specs.declared.lens.Lens.{Lens}
-use Rattle.kernels_model.specs.declared.lens.Radius.{Radius}
-use Rattle.kernels_model.specs.declared.lens.Radius.TheVariants.{Pixels}
+use Rattle.kernels_model.specs.declared.lens.RadiusError.{RadiusError}
 use Rattle.kernels_model.specs.Lens.{lawful_lens, blur, radius_answer, radius_answer_for}
 use Rattle.kernels_model.proofs.Lenses.ThinLens.{radius_read}
 use Rattle.plate_model.specs.Word.{empty, word_of}
@@ -12,14 +12,13 @@ use Rattle.plate_model.specs.declared.state.State.{State}
 use Rattle.plate_model.specs.declared.lent.LentLengths.{LentLengths}
 use Rattle.plate_model.specs.Lent.{state_of, Lent, lengths_of, Inputs}
 use Rattle.plate_model.specs.declared.state.Refusal.{Refusal}
-use Rattle.plate_model.specs.declared.state.Outcome.{Outcome}
-use Rattle.plate_model.specs.declared.state.Outcome.TheVariants.{Accepted, Refused}
+use Rattle.plate_model.specs.Refusal.{Outcome}
 use Rattle.plate_model.specs.Refusal.{layer_check, fill_check}
 use Rattle.plate_model.specs.Asked.{known_shape, filled}
 use Rattle.plate_model.specs.Marks.{pixel_marks, lay_all, lay_grid}
 use Rattle.kernels_model.specs.Listed.{list_to}
 use Rattle.plate_model.specs.Calls.{left, answer_of, refused, fill_by, fill_call}
-use Rattle.plate.specs.Filling.{Layer, ToFill, NoFill, read_by, layer_read, layer_size, pixel_of, pixel_from, Ready, FilledTo}
+use Rattle.plate.specs.Filling.{Layer, read_by, layer_read, layer_size, pixel_of, Ready, FilledTo}
 use Rattle.plate.specs.Filling.{Refilled, fill_lengths, inputs_read, layer_of}
 use Rattle.plate_model.proofs.Checks.Rows.{and_then_lem}
 use Rattle.plate_model.proofs.Checks.Accepted.{layer-accepted}
@@ -30,17 +29,18 @@ use Rattle.kernels_model.specs.Fixed.{depth_top}
 
 -- ONE PIXEL
 -- the radius that a lawful lens gives a lawful depth
-pub radius_is : (l : Lens) (top z r : ℕ) (a : Radius) → lawful_lens l ≡ true → z ≤ depth_top
-    → radius_answer a ≡ radius_answer_for l top z → a ≡ Pixels r → r ≡ min top (blur l z)
+pub radius_is : (l : Lens) (top z r : ℕ) (a : Result ℕ RadiusError) → lawful_lens l ≡ true → z ≤ depth_top
+    → radius_answer a ≡ radius_answer_for l top z → a ≡ Ok r → r ≡ min top (blur l z)
 radius_is l top z r a e h p q =
-    let same : Pixels r ≡ Pixels (min top (blur l z)) = sym q ∙ radius_read a l top z p e h in
+    let same : Ok r ≡ Ok (min top (blur l z)) = sym q ∙ radius_read a l top z p e h in
     cc
 
 -- the pixel at a place, from what the inputs hold there
-pixel_at_lem : (j : Layer) (f : Inputs) (i : ℕ) → j.top ≡ top_under j.shape (layer_size j).reach
-    → pixel_from j (get_or f.values i 0) (get_or f.opacities i 0) (get_or f.depths i 0) ≡ pixel_of j f i
+pub pixel_at_lem : (j : Layer) (f : Inputs) (i r : ℕ) → j.top ≡ top_under j.shape (layer_size j).reach
+    → r ≡ min j.top (blur j.lens (get_or f.depths i 0))
+    → record { value = get_or f.values i 0; opacity = get_or f.opacities i 0; shape = j.shape; radius = r } ≡ pixel_of j f i
 unfolding filled
-pixel_at_lem j f i e = rw e
+pixel_at_lem j f i r e q = rw (q, e)
 
 -- PIXEL AFTER PIXEL
 module _ (j : Layer) (f : Inputs) (cells : List ℕ) where
@@ -48,22 +48,19 @@ module _ (j : Layer) (f : Inputs) (cells : List ℕ) where
   unfolding lay_grid
   filled_none pixels n e = record { laid = rw e; stored = λ i l. absurd (omega arith) }
 
-  pub filled_more : (planes pixels after : List ℕ) (n word m : ℕ) → j.top ≡ top_under j.shape (layer_size j).reach
-      → n < length pixels
-      → m ≡ n + 1
-      → let p = pixel_from j (get_or f.values n 0) (get_or f.opacities n 0) (get_or f.depths n 0) in
-      after ≡ lay_all (layer_size j) planes (pixel_marks (layer_size j) n p)
-      → word ≡ word_of p
+  pub filled_more : (planes pixels after : List ℕ) (n word m : ℕ) → n < length pixels → m ≡ n + 1
+      → after ≡ lay_all (layer_size j) planes (pixel_marks (layer_size j) n (pixel_of j f n))
+      → word ≡ word_of (pixel_of j f n)
       → FilledTo j f cells planes pixels n
       → FilledTo j f cells after (set pixels n word) m
   unfolding lay_grid
-  filled_more planes pixels after n word m top h e laid stored done =
+  filled_more planes pixels after n word m h e laid stored done =
       rw e
       (record {
-        laid = rw (add-one n, laid, pixel_at_lem j f n top, done.laid);
+        laid = rw (add-one n, laid, done.laid);
         stored = below_more _ n
             (λ i l. get_or-set_other pixels n i word 0 (λ q. omega arith) ∙ done.stored i l)
-            (get_or-set_same pixels n word 0 h ∙ stored ∙ ap word_of (pixel_at_lem j f n top));
+            (get_or-set_same pixels n word 0 h ∙ stored);
       })
 
   -- all words
@@ -78,39 +75,39 @@ module _ (j : Layer) (f : Inputs) (cells : List ℕ) where
 
 -- THE CHECKS
 -- a layer is read where its check accepts, and its refusal where it does not
-to_fill : (o : Outcome) (j k : Layer) → ToFill k ≡ read_by o j → (o ≡ Accepted) × (k ≡ j)
-to_fill Accepted j k e = (refl, cc)
-to_fill (Refused f) j k e = let z : ◌≡◌ {A = ℕ} 0 1 = cc in absurd (omega arith)
+to_fill : (o : Outcome) (j k : Layer) → Ok k ≡ read_by o j → (o ≡ Ok tt) × (k ≡ j)
+to_fill (Ok tt) j k e = (refl, cc)
+to_fill (Err f) j k e = let z : ◌≡◌ {A = ℕ} 0 1 = cc in absurd (omega arith)
 
-no_fill : (o : Outcome) (j : Layer) (f : Refusal) → NoFill f ≡ read_by o j → o ≡ Refused f
-no_fill Accepted j f e = let z : ◌≡◌ {A = ℕ} 0 1 = cc in absurd (omega arith)
-no_fill (Refused g) j f e = let same : f ≡ g = cc in ap Refused (sym same)
+no_fill : (o : Outcome) (j : Layer) (f : Refusal) → Err f ≡ read_by o j → o ≡ Err f
+no_fill (Ok tt) j f e = let z : ◌≡◌ {A = ℕ} 0 1 = cc in absurd (omega arith)
+no_fill (Err g) j f e = let same : f ≡ g = cc in ap Err (sym same)
 
 -- 1 to 3 of a fill, of what its inputs are
 abbrev fill_lengths_of : State → Inputs → LentLengths → Outcome
 fill_lengths_of s f n = fill_lengths s n (length f.values) (length f.opacities) (length f.depths)
 
 -- what a fill reads, past 1 to 3
-pub layer_past : (s : State) (o : Lens) (k : ℕ) (f : Inputs) (n : LentLengths) → fill_lengths_of s f n ≡ Accepted
+pub layer_past : (s : State) (o : Lens) (k : ℕ) (f : Inputs) (n : LentLengths) → fill_lengths_of s f n ≡ Ok tt
     → inputs_read s.size o k f ≡ layer_read s o k f n
 unfolding fill_check
 layer_past s o k f n e = rw (fill_before s f n (layer_check o k f), e)
 
 -- and what 1 to 3 refuse
 pub layer_before : (s : State) (o : Lens) (k : ℕ) (f : Inputs) (n : LentLengths) (why : Refusal)
-    → fill_lengths_of s f n ≡ Refused why
-    → NoFill why ≡ layer_read s o k f n
+    → fill_lengths_of s f n ≡ Err why
+    → Err why ≡ layer_read s o k f n
 unfolding fill_check
 layer_before s o k f n why e = rw (fill_before s f n (layer_check o k f), e)
 
 module _ (s : State) (o : Lens) (k : ℕ) (f : Inputs) (l : Lent) where
-  pub layer-refused : (why : Refusal) → NoFill why ≡ layer_read s o k f (lengths_of l) → refused why s l ≡ fill_call s o k f l
+  pub layer-refused : (why : Refusal) → Err why ≡ layer_read s o k f (lengths_of l) → refused why s l ≡ fill_call s o k f l
   unfolding fill_call fill_by
   layer-refused why e = rw (no_fill (fill_check s o k f (lengths_of l)) _ why e)
 
   -- an accepted layer
-  module _ (j : Layer) (read : ToFill j ≡ layer_read s o k f (lengths_of l)) where
-    accepted : fill_check s o k f (lengths_of l) ≡ Accepted
+  module _ (j : Layer) (read : Ok j ≡ layer_read s o k f (lengths_of l)) where
+    accepted : fill_check s o k f (lengths_of l) ≡ Ok tt
     accepted = (to_fill _ _ j read).0
 
     made_is : j ≡ layer_of s.size o (known_shape (shape_of k))
@@ -124,21 +121,21 @@ module _ (s : State) (o : Lens) (k : ℕ) (f : Inputs) (l : Lent) where
         let p = layer-accepted o k f both.1 in
         rw made_is
         (record {
-          layable = record {
+          lawful = record {
             framed = refl;
             top_is = refl;
             lens_lawful = p.lens_lawful;
-            planes_are = h.lent.planes_are;
+            values_are = h.values_are;
+            opacities_are = h.opacities_are;
+            depths_are = h.depths_are;
+            values_in = p.values_in;
+            depths_in = p.depths_in;
           };
+          planes_are = h.lent.planes_are;
           pixels_are = h.lent.pixels_are;
-          values_are = h.values_are;
-          opacities_are = h.opacities_are;
-          depths_are = h.depths_are;
-          values_in = p.values_in;
-          depths_in = p.depths_in;
         })
 
     pub layer-filled : (planes pixels log : List ℕ) → Refilled j f (length l.planes) (length l.log) planes pixels log
-        → left (answer_of Accepted 0 (state_of (layer_size j) 0)) planes pixels log ≡ fill_call s o k f l
+        → left (answer_of (Ok tt) 0 (state_of (layer_size j) 0)) planes pixels log ≡ fill_call s o k f l
     unfolding fill_call fill_by
     layer-filled planes pixels log made = rw (made.laid, made.stored, made.emptied, made_is, accepted)

@@ -7,7 +7,7 @@ use Rattle.kernels_model.specs.Shape.{reach_of, top_of}
 use Rattle.kernels_model.specs.Tap.{share, rest}
 use Rattle.kernels_model.specs.declared.share.Share.{Share}
 use Rattle.kernels_model.specs.Share.{share_parts}
-use Rattle.kernels_model.specs.Mark.{Mark, minus, box_grid, scaled, tap_marks, centre_marks, marks}
+use Rattle.kernels_model.specs.Mark.{Mark, box_grid, scaled, tap_marks, centre_marks, marks}
 use Rattle.kernels_model.specs.Drawing.{moved, drawn_marks, drawing_of}
 use Rattle.kernels_model.proofs.Drawing.Drawings.{drawing_marks}
 use Rattle.kernels_model.proofs.Taps.Shares.{parts_under}
@@ -192,65 +192,57 @@ pixel_worth f x y p s h e =
       part_worth p (rest p.shape p.radius),
     )
 
--- minus a worth is laid as minus its marks
-opposite_alike : (l c : ℕ) → ((l * minus 1) % 2 ^ 64 * c) % 2 ^ 64 ≡ (minus 1 * (l * c)) % 2 ^ 64
-opposite_alike l c = times_number l (minus 1) c ∙ ap (λ (n : ℕ). n % 2 ^ 64) (omega arith)
-
-opposite_laid : (z : Size) (l m : ℕ) (ms : List Mark) (cells : List ℕ)
-    → lay_all z cells (in_both ((l * minus 1) % 2 ^ 64) ((m * minus 1) % 2 ^ 64) ms)
-    ≡ lay_all z cells (scaled (minus 1) (in_both l m ms))
+-- c times a worth is laid as c times its marks
+times_laid : (z : Size) (w : Amounts) (c : ℕ) (ms : List Mark) (cells : List ℕ)
+    → lay_all z cells (in_both (times w c).light (times w c).matte ms)
+    ≡ lay_all z cells (scaled c (in_both w.light w.matte ms))
 unfolding lay_all in_both scaled
-opposite_laid z l m [] cells = refl
-opposite_laid z l m (k ∷ ms) cells =
-    ap (λ (laid : List ℕ). lay_all z laid (in_both ((l * minus 1) % 2 ^ 64) ((m * minus 1) % 2 ^ 64) ms))
-    (lay_alike_both cells (cell_of z k) _ _ _ _ _ (opposite_alike l k.coefficient) (opposite_alike m k.coefficient))
-    ∙ opposite_laid z l m ms _
+times_laid z w c [] cells = refl
+times_laid z w c (k ∷ ms) cells =
+    ap (λ (laid : List ℕ). lay_all z laid (in_both (times w c).light (times w c).matte ms))
+    (lay_alike_both cells (cell_of z k) _ _ _ _ _ (alike w.light) (alike w.matte))
+    ∙ times_laid z w c ms _
+  where
+    alike : (l : ℕ) → ((l * c) % 2 ^ 64 * k.coefficient) % 2 ^ 64 ≡ (c * (l * k.coefficient)) % 2 ^ 64
+    alike l = times_number l c k.coefficient ∙ ap (λ (n : ℕ). n % 2 ^ 64) (omega arith)
 
 scaled_append : (c : ℕ) (ms ns : List Mark) → scaled c (ms ++ ns) ≡ scaled c ms ++ scaled c ns
 unfolding scaled
 scaled_append c [] ns = refl
 scaled_append c (m ∷ ms) ns = rw (scaled_append c ms ns)
 
+-- once a mark is the mark
+pub scaled-one : (ms : List Mark) → scaled 1 ms ≡ ms
+unfolding scaled
+scaled-one [] = refl
+scaled-one (m ∷ ms) = let one : 1 * m.coefficient ≡ m.coefficient = omega arith in rw (one, scaled-one ms)
+
 -- and so of both parts of a kernel
-opposite_parts : (f : Frame) (x y : ℕ) (s : Shape) (r : ℕ) (taps centre : Amounts) (cells : List ℕ)
-    → lay_all f.size cells (parts_at f x y s r (times taps (minus 1)) (times centre (minus 1)))
-    ≡ lay_all f.size cells (scaled (minus 1) (parts_at f x y s r taps centre))
-opposite_parts f x y s r taps centre cells =
-    rw (
-      lay_append,
-      opposite_laid f.size taps.light taps.matte,
-      opposite_laid f.size centre.light centre.matte,
-      scaled_append,
-      lay_append,
-    )
+times_parts : (f : Frame) (x y : ℕ) (s : Shape) (r : ℕ) (taps centre : Amounts) (c : ℕ) (cells : List ℕ)
+    → lay_all f.size cells (parts_at f x y s r (times taps c) (times centre c))
+    ≡ lay_all f.size cells (scaled c (parts_at f x y s r taps centre))
+times_parts f x y s r taps centre c cells =
+    rw (lay_append, times_laid f.size taps c, times_laid f.size centre c, scaled_append, lay_append)
 
 -- PIXELS
-module _ (f : Frame) (n x y : ℕ) (p : Pixel) (q : Share) (h : PixelReady f n x y p q) where
+module _ (f : Frame) (n x y : ℕ) (placed : Placed f x y) (p : Pixel) (q : Share) (h : PixelReady f n p q) where
   -- "r is also at most R / n rounded down", so that its kernel keeps to the plate's reach
   pub pixel_reaches : reach_of p.shape p.radius ≤ f.size.reach
   pixel_reaches = reach_under f.size.reach p.shape p.radius h.radius_fits
 
-  -- its taps with their share, then its centre with the remainder, each laid from its own corner
-  abbrev parts_laid : List ℕ → Amounts → Amounts → List ℕ
-  parts_laid cells taps centre =
-      lay_drawn (origin_of f (corner_of f x y 0)) centre
-      (lay_drawn (origin_of f (corner_of f x y (reach_of p.shape p.radius))) taps cells (own_marks p.shape p.radius))
+  -- its taps with their share, then its centre with the remainder, each laid from its own corner, with c times their worth
+  abbrev parts_laid : ℕ → List ℕ → List ℕ
+  parts_laid c cells =
+      lay_drawn (origin_of f (corner_of f x y 0)) (times (amounts_of p q.rest) c)
+      (lay_drawn (origin_of f (corner_of f x y (reach_of p.shape p.radius))) (times (amounts_of p q.each) c)
+      cells (own_marks p.shape p.radius))
       (own_marks Box 0)
 
-  pub pixel_laid : (cells : List ℕ)
-      → parts_laid cells (amounts_of p q.each) (amounts_of p q.rest) ≡ lay_all f.size cells (marks_at f x y p)
-  pixel_laid cells =
-      parts_laid_lem f x y h.placed p.shape p.radius pixel_reaches _ _ cells
-      ∙ ap (lay_all f.size cells) (pixel_worth f x y p q (omega (arith, h.radius_fits)) h.share_is)
-
-  -- and with what wraps to their opposites
-  pub pixel_taken : (cells : List ℕ)
-      → parts_laid cells (times (amounts_of p q.each) (minus 1)) (times (amounts_of p q.rest) (minus 1))
-      ≡ lay_all f.size cells (scaled (minus 1) (marks_at f x y p))
-  pixel_taken cells =
-      parts_laid_lem f x y h.placed p.shape p.radius pixel_reaches _ _ cells
-      ∙ opposite_parts f x y p.shape p.radius (amounts_of p q.each) (amounts_of p q.rest) cells
-      ∙ ap (λ (ms : List Mark). lay_all f.size cells (scaled (minus 1) ms))
+  pub pixel_laid : (c : ℕ) (cells : List ℕ) → parts_laid c cells ≡ lay_all f.size cells (scaled c (marks_at f x y p))
+  pixel_laid c cells =
+      parts_laid_lem f x y placed p.shape p.radius pixel_reaches _ _ cells
+      ∙ times_parts f x y p.shape p.radius (amounts_of p q.each) (amounts_of p q.rest) c cells
+      ∙ ap (λ (ms : List Mark). lay_all f.size cells (scaled c ms))
       (pixel_worth f x y p q (omega (arith, h.radius_fits)) h.share_is)
 
 -- BOXES

@@ -1,4 +1,5 @@
 -- A row that is mended column by column, and the rows one after the other: in the end they are the cells in reach.
+use Rattle.std.specs.Prelude.{Ok}
 use Rattle.std.proofs.Common.{◌≡◌, ℕ, ◌+◌, ◌-◌, ◌*◌, ◌/◌, ◌%◌, ◌<◌, ◌≤◌, min, true, ◌⊎◌, length, ◌∙◌, inl, inr, mod-lt, arith}
 use Rattle.kernels_model.specs.Sum.{dist}
 use Rattle.kernels_model.specs.Shape.{reach_of}
@@ -8,7 +9,6 @@ use Rattle.plate_model.specs.declared.size.Size.{Size}
 use Rattle.plate_model.specs.Layout.{places}
 use Rattle.plate_model.specs.Lent.{Canvas}
 use Rattle.plate_model.specs.declared.change.Change.{Change}
-use Rattle.plate_model.specs.declared.state.Outcome.TheVariants.{Accepted}
 use Rattle.plate_model.specs.Kept.{in_reach, canvas_first}
 use Rattle.plate_model.specs.Ready.{Changeable}
 use Rattle.plate.specs.Mending.{Given, GivenIn, CellIn, CellDone, MendReady, RowToMend, InRow, MendedWhere}
@@ -20,7 +20,7 @@ use Rattle.plate_model.proofs.Mending.Reached.{near_reached, far_not_reached, ro
 use Rattle.plate.proofs.Laws.Mending.Mended.{InRange, mended_then, mended_as, cell-mended}
 
 -- a change of a plate and accepted sums and pictures can be mended
-pub mend_ready : (z : Size) (c : Change) (n : ℕ) (k : Canvas) → Changeable z c n → canvas_first z k ≡ Accepted → MendReady z c k
+pub mend_ready : (z : Size) (c : Change) (n : ℕ) (k : Canvas) → Changeable z c n → canvas_first z k ≡ Ok tt → MendReady z c k
 mend_ready z c n k h e =
     let q = kept_accepted z (length k.sums) (length k.values) (length k.mattes) e in
     record {

@@ -1,43 +1,51 @@
 -- A row whose sums are raised run by run: first by what the old pixel took away, then by what the new one gives.
-use Rattle.std.proofs.Common.{◌≡◌, ℕ, ◌+◌, ◌-◌, ◌*◌, ◌/◌, ◌%◌, ◌^◌, ◌<◌, ◌≤◌, min, true, List, length, get_or, refl, ap, ◌∙◌, mod-lt, div-add-mod', arith}
+use Rattle.std.proofs.Common.{◌≡◌, ℕ, ◌+◌, ◌-◌, ◌*◌, ◌/◌, ◌%◌, ◌^◌, ◌<◌, ◌≤◌, min, true, List, get_or, refl, ap, ◌∙◌, mod-lt, div-add-mod', arith}
 use native.Mathlib.Nat.{add-mod-mod}
+use Rattle.std.specs.declared.ops.Range.{Range}
 use Rattle.kernels_model.specs.Sum.{dist}
 use Rattle.kernels_model.specs.Mark.{minus}
 use Rattle.kernels_model.specs.Band.{is_level}
 use Rattle.kernels_model.proofs.Numbers.Choices.{by_lt}
 use Rattle.kernels_model.proofs.Taps.Bands.{band_out, level-weight}
 use Rattle.plate_model.specs.declared.size.Size.{Size}
-use Rattle.plate_model.specs.Layout.{places, sums_in_all, matte_from}
+use Rattle.plate_model.specs.Layout.{places, matte_from}
 use Rattle.plate_model.specs.Lent.{Canvas, canvas}
 use Rattle.plate_model.specs.declared.change.Change.{Change}
 use Rattle.plate.specs.Laying.{Amounts, times}
+use Rattle.plate.specs.Passes.{Written}
 use Rattle.plate.specs.Showing.{RowShown}
-use Rattle.plate.specs.Mending.{Given, GivenIn, given_at, level_amounts, light_then, matte_then, CellRange, RunAdded, RunIn}
+use Rattle.plate.specs.Mending.{Given, GivenIn, given_at, amounts_at, light_then, matte_then, RunIn}
 use Rattle.plate.specs.Mending.{RunGiven, RowToMend, InRow, CellMended, CellSame, MendedWhere}
 use Rattle.plate.proofs.Laws.Numbers.Wraps.{wrap_more}
-use Rattle.plate_model.proofs.Numbers.Extents.{place_within, row_in, column_is, row_is}
+use Rattle.plate_model.proofs.Numbers.Extents.{place_within, column_is, row_is}
 use Rattle.plate.proofs.Laws.Mending.Mended.{InRange, light_then_lem, matte_then_lem}
 use Rattle.plate.proofs.Laws.Mending.Rows.{change_column, change_row, row-mended}
 
 -- ONE RUN
+-- a number is added to each sum of a run
+abbrev pub RunAdded : ℕ → ℕ → ℕ → List ℕ → List ℕ → Type 0
+RunAdded first count by old new = Written 1 count (λ c. first) (λ c i. (get_or old (first + i) 0 + by) % 2 ^ 64) old new
+
 -- light's run and then matte's
-pub run_given : (n start : ℕ) (s : CellRange) (by : Amounts) (old mid new : List ℕ) → RunIn n start s old
-    → RunAdded (start + s.first) (s.past - s.first) by.light old mid
-    → RunAdded (n + (start + s.first)) (s.past - s.first) by.matte mid new → RunGiven n start s by old new
-run_given n start s by old mid new inside light matte =
+pub run_given : (n start : ℕ) (s : Range ℕ) (by : Amounts) (old mid new : List ℕ) (count count₂ : ℕ) → count ≡ s.end - s.start
+    → count₂ ≡ s.end - s.start
+    → RunIn n start s old
+    → RunAdded (start + s.start) count by.light old mid
+    → RunAdded (n + (start + s.start)) count₂ by.matte mid new → RunGiven n start s by old new
+run_given n start s by old mid new count count₂ many many₂ inside light matte =
     record {
       same = matte.same ∙ light.same;
       light_in = λ x low high.
-          let at : start + s.first + (x - s.first) ≡ start + x = omega arith in
+          let at : start + s.start + (x - s.start) ≡ start + x = omega arith in
           matte.rest (start + x) (λ c i h g e. omega (arith, inside.past_in, g))
-          ∙ (rw at at (light.done 0 (x - s.first) (omega arith) (omega arith)));
+          ∙ (rw at at (light.done 0 (x - s.start) (omega arith) (omega arith)));
       matte_in = λ x low high.
-          let at : n + (start + s.first) + (x - s.first) ≡ n + (start + x) = omega arith in
+          let at : n + (start + s.start) + (x - s.start) ≡ n + (start + x) = omega arith in
           let before = light.rest (n + (start + x)) (λ c i h g e. omega (arith, inside.past_in, g)) in
-          (rw at at (matte.done 0 (x - s.first) (omega arith) (omega arith))) ∙ ap (λ (m : ℕ). (m + by.matte) % 2 ^ 64) before;
+          (rw at at (matte.done 0 (x - s.start) (omega arith) (omega arith))) ∙ ap (λ (m : ℕ). (m + by.matte) % 2 ^ 64) before;
       rest = λ j no_light no_matte.
-          matte.rest j (λ c i h g e. no_matte (s.first + i) (omega arith) (omega (arith, g)) (omega (arith, e)))
-          ∙ light.rest j (λ c i h g e. no_light (s.first + i) (omega arith) (omega (arith, g)) (omega (arith, e)));
+          matte.rest j (λ c i h g e. no_matte (s.start + i) (omega arith) (omega (arith, g)) (omega (arith, e)))
+          ∙ light.rest j (λ c i h g e. no_light (s.start + i) (omega arith) (omega (arith, g)) (omega (arith, e)));
     }
 
 -- BOTH RUNS
@@ -75,37 +83,25 @@ given_out : (g : Given) (dx : ℕ) → g.band.span ≤ dx → given_at g dx ≡ 
 given_out g dx h = rw (band_out g.band dx h) (omega arith)
 
 -- the cells of a line that are nearer than a span to the one at a column
-abbrev pub Around : ℕ → ℕ → ℕ → CellRange → Type 0
-Around at span end s = (s.first ≡ at + 1 - span) × (s.past ≡ min (at + span) end)
-
--- those of a row lie in the row
-pub run_in : (z : Size) (c : Change) (row : ℕ) (old new : Given) (k : Canvas) → RowToMend z c row old new k
-    → (t : ℕ) (run : CellRange) → Around c.x t z.width run → (sums : List ℕ) → length sums ≡ sums_in_all z
-    → RunIn (places z) (row * z.width) run sums
-run_in z c row old new k r t run a sums e =
-    let low = row_in row z.width z.height r.row_in in
-    record {
-      from_in = omega (arith, a.0, r.ready.change.column_in, low);
-      past_in = omega (arith, a.1, low);
-      sums_are = e;
-    }
+abbrev pub Around : ℕ → ℕ → ℕ → Range ℕ → Type 0
+Around at span end s = (s.start ≡ at + 1 - span) × (s.end ≡ min (at + span) end)
 
 module _ (z : Size) (c : Change) (row : ℕ) (old new : Given) (k : Canvas) (r : RowToMend z c row old new k)
     (old_level : is_level old.band ≡ true) (new_level : is_level new.band ≡ true)
-    (old_run new_run wide : CellRange) (span : ℕ) (wider : span ≡ old.band.span + (new.band.span - old.band.span))
+    (old_run new_run wide : Range ℕ) (span : ℕ) (wider : span ≡ old.band.span + (new.band.span - old.band.span))
     (old_around : Around c.x old.band.span z.width old_run)
     (new_around : Around c.x new.band.span z.width new_run) (around : Around c.x span z.width wide)
     (s₁ s₂ v o : List ℕ)
-    (taken : RunGiven (places z) (row * z.width) old_run (times (level_amounts old) (minus 1)) k.sums s₁)
-    (given : RunGiven (places z) (row * z.width) new_run (level_amounts new) s₁ s₂)
-    (shown : RowShown s₂ (row * z.width + wide.first) (places z + (row * z.width + wide.first)) (row * z.width + wide.first)
-    (wide.past - wide.first) k.values v k.mattes o) where
+    (taken : RunGiven (places z) (row * z.width) old_run (times (amounts_at old 0) (minus 1)) k.sums s₁)
+    (given : RunGiven (places z) (row * z.width) new_run (amounts_at new 0) s₁ s₂)
+    (shown : RowShown s₂ (row * z.width + wide.start) (places z + (row * z.width + wide.start)) (row * z.width + wide.start)
+    (wide.end - wide.start) k.values v k.mattes o) where
   in_place : (x : ℕ) → x < z.width → row * z.width + x < places z
   in_place x h = place_within x row z.width z.height h r.row_in
 
   -- a cell out of a run is in neither of its parts
-  out_of_run : (t : ℕ) (run : CellRange) → Around c.x t z.width run → (x : ℕ) → x < z.width → t ≤ dist x c.x
-      → (x' : ℕ) → run.first ≤ x' → x' < run.past → ¬ (x ≡ x')
+  out_of_run : (t : ℕ) (run : Range ℕ) → Around c.x t z.width run → (x : ℕ) → x < z.width → t ≤ dist x c.x
+      → (x' : ℕ) → run.start ≤ x' → x' < run.end → ¬ (x ≡ x')
   out_of_run t run a x inside far x' low high e = omega (arith, a.0, a.1, far, low, high, e)
 
   -- the two sums of a cell in reach
@@ -162,7 +158,7 @@ module _ (z : Size) (c : Change) (row : ℕ) (old new : Given) (k : Canvas) (r :
       (omega (arith, near, wider))
 
   -- it is mended, with its picture cells
-  here : (x : ℕ) → x < z.width → wide.first ≤ x → x < wide.past → CellMended z c k (canvas s₂ v o) (row * z.width + x)
+  here : (x : ℕ) → x < z.width → wide.start ≤ x → x < wide.end → CellMended z c k (canvas s₂ v o) (row * z.width + x)
   here x inside low high =
       let near : dist x c.x < span = omega (arith, around.0, around.1, low, high) in
       let column = column_is x row z.width inside in
@@ -177,24 +173,24 @@ module _ (z : Size) (c : Change) (row : ℕ) (old new : Given) (k : Canvas) (r :
       ∙ (rw (column, across) at (light_then_lem z c (row * z.width + x) old new k old_is new_is)) in
       let matte = matte_sum x inside near
       ∙ (rw (column, across) at (matte_then_lem z c (row * z.width + x) old new k old_is new_is)) in
-      let at : row * z.width + wide.first + (x - wide.first) ≡ row * z.width + x = omega arith in
-      let at' : places z + (row * z.width + wide.first) + (x - wide.first) ≡ places z + (row * z.width + x) = omega arith in
+      let at : row * z.width + wide.start + (x - wide.start) ≡ row * z.width + x = omega arith in
+      let at' : places z + (row * z.width + wide.start) + (x - wide.start) ≡ places z + (row * z.width + x) = omega arith in
       record {
         light_is = light;
         matte_is = matte;
-        value_is = (rw (at, at') at (shown.in_values.done 0 (x - wide.first) (omega arith) (omega arith))) ∙ rw (light, matte);
-        shown_is = (rw (at, at') at (shown.in_mattes.done 0 (x - wide.first) (omega arith) (omega arith))) ∙ rw matte;
+        value_is = (rw (at, at') at (shown.in_values.done 0 (x - wide.start) (omega arith) (omega arith))) ∙ rw (light, matte);
+        shown_is = (rw (at, at') at (shown.in_mattes.done 0 (x - wide.start) (omega arith) (omega arith))) ∙ rw matte;
       }
 
   -- a cell of one of the runs is one of the wider
-  in_wide : (i x : ℕ) → wide.first ≤ x → x < wide.past → i ≡ row * z.width + x
-      → InRange z row wide.first (wide.first + (wide.past - wide.first)) i
+  in_wide : (i x : ℕ) → wide.start ≤ x → x < wide.end → i ≡ row * z.width + x
+      → InRange z row wide.start (wide.start + (wide.end - wide.start)) i
   in_wide i x low high e =
       let inside : x < z.width = omega (arith, high, around.1) in
       rw (e, row_is x row z.width inside, column_is x row z.width inside) (refl, low, omega (arith, low, high))
 
   -- every other cell is as it was
-  there : (i : ℕ) → i < places z → ¬ (InRange z row wide.first (wide.first + (wide.past - wide.first)) i)
+  there : (i : ℕ) → i < places z → ¬ (InRange z row wide.start (wide.start + (wide.end - wide.start)) i)
       → CellSame z k (canvas s₂ v o) i
   there i h n =
       record {
@@ -216,16 +212,16 @@ module _ (z : Size) (c : Change) (row : ℕ) (old new : Given) (k : Canvas) (r :
             (omega (arith, high, old_around.1, around.1, wider)) (omega (arith, e))));
         value_is =
             shown.in_values.rest i
-            (λ c j _ g e. n (in_wide i (wide.first + j) (omega arith) (omega (arith, g)) (omega (arith, e))));
+            (λ c j _ g e. n (in_wide i (wide.start + j) (omega arith) (omega (arith, g)) (omega (arith, e))));
         shown_is =
             shown.in_mattes.rest i
-            (λ c j _ g e. n (in_wide i (wide.first + j) (omega arith) (omega (arith, g)) (omega (arith, e))));
+            (λ c j _ g e. n (in_wide i (wide.start + j) (omega arith) (omega (arith, g)) (omega (arith, e))));
       }
 
   pub runs_mended : MendedWhere z c (InRow z c row) k (canvas s₂ v o)
   runs_mended =
-      row-mended z c k r.ready row r.row_in old new r.old_is r.new_is wide.first wide.past
-      (wide.first + (wide.past - wide.first)) span (canvas s₂ v o) wider around.0 around.1 (omega arith) (omega arith)
+      row-mended z c k r.ready row r.row_in old new r.old_is r.new_is wide.start wide.end
+      (wide.start + (wide.end - wide.start)) span (canvas s₂ v o) wider around.0 around.1 (omega arith) (omega arith)
       (record {
         same_sums = given.same ∙ taken.same;
         same_values = shown.in_values.same;

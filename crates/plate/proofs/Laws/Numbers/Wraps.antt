@@ -1,5 +1,5 @@
 -- Numbers that wrap at 2^64.
-use Rattle.std.proofs.Common.{◌≡◌, ℕ, ◌+◌, ◌-◌, ◌*◌, ◌%◌, ◌^◌, ◌<◌, mod-eq_of_lt, arith}
+use Rattle.std.proofs.Common.{◌≡◌, ℕ, ◌+◌, ◌-◌, ◌*◌, ◌%◌, ◌^◌, arith}
 use native.Mathlib.Nat.{mod-add-mod, add-mul-mod_self_left}
 
 -- one more number
@@ -11,12 +11,6 @@ opposed : (a b : ℕ) → (b + a + (2 ^ 64 - 1) * b) % 2 ^ 64 ≡ a % 2 ^ 64
 opposed a b =
     let s : b + a + (2 ^ 64 - 1) * b ≡ a + 2 ^ 64 * b = omega arith in
     rw (s, add-mul-mod_self_left)
-
--- what wrapping_sub_u64 says is: add the opposite
-pub wrap_off : (v a b : ℕ) → v < 2 ^ 64 → (v + b) % 2 ^ 64 ≡ a → v ≡ (a + (2 ^ 64 - 1) * b) % 2 ^ 64
-wrap_off v a b l e =
-    let s : v + b ≡ b + v = omega arith in
-    rw (← e, mod-add-mod, s, opposed v b, mod-eq_of_lt l)
 
 -- a summand taken off again
 pub wrap_back : (a b s : ℕ) → s ≡ (b + a) % 2 ^ 64 → (s + (2 ^ 64 - 1) * b) % 2 ^ 64 ≡ a % 2 ^ 64

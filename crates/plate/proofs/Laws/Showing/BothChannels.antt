@@ -1,7 +1,7 @@
 -- Both channels side by side: what sums the one leaves the other.
-use Rattle.std.proofs.Common.{◌≡◌, ℕ, ◌<◌, ◌≤◌, List, length, get_or, ap, ◌∙◌, arith}
-use Rattle.plate.specs.Passes.{Channel, sums_end, matte_after, starts_at, ChannelIn, OnlySums, SummedTo, Summed}
-use Rattle.plate.specs.Showing.{BothIn, BothSummed}
+use Rattle.std.proofs.Common.{◌≡◌, ℕ, ◌<◌, ◌≤◌, List, get_or, ◌∙◌, arith}
+use Rattle.plate.specs.Passes.{Channel, sums_end, matte_after, starts_at, SummedTo, Summed}
+use Rattle.plate.specs.Showing.{BothSummed}
 use Rattle.plate.proofs.Laws.Showing.Starts.{in_place}
 
 -- a channel whose sums are not changed
@@ -43,25 +43,7 @@ summed_on p m s s' y some low e old =
       finished = λ x l. e _ (omega arith) (omega arith) ∙ old.finished x l;
     }
 
-module _ (light : Channel) (s m : List ℕ) (both : BothIn light s m) where
-  pub light_in : ChannelIn light s m
-  light_in = omega arith
-
-  pub matte_in : (s1 : List ℕ) → length s1 ≡ length s → ChannelIn (matte_after light) s1 m
-  matte_in s1 e = omega arith
-
-  pub both_on : (s1 : List ℕ) → length s1 ≡ length s → BothIn light s1 m
-  both_on s1 e = omega arith
-
--- where matte's sums start
-pub matte_sums : (light matte : Channel) → matte ≡ matte_after light → matte.sums ≡ sums_end light
-matte_sums light matte e = ap (λ (p : Channel). p.sums) e
-
 -- light is summed, then matte
-pub matte_kept : (light : Channel) (m s s1 : List ℕ) (y : ℕ) → 0 < light.columns → y ≤ light.high → OnlySums light s s1
-    → SummedTo (matte_after light) m s y → SummedTo (matte_after light) m s1 y
-matte_kept light m s s1 y some low k = summed_on (matte_after light) m s s1 y some low (λ j f g. k.after j f)
-
 pub both-summed : (light : Channel) (m s s1 s2 : List ℕ) (y : ℕ) → 0 < light.columns → y ≤ light.high
     → Summed light m s s1 y → Summed (matte_after light) m s1 s2 y → BothSummed light m s s2 y
 both-summed light m s s1 s2 y some low one two =

@@ -1,21 +1,24 @@
 -- The rows of the image, and all of a show.
+use Rattle.std.specs.Prelude.{Ok}
 use Rattle.std.proofs.Common.{◌≡◌, ℕ, zero, suc, ◌+◌, ◌-◌, ◌*◌, ◌/◌, ◌%◌, ◌^◌, ◌<◌, ◌≤◌, List, length, get_or, sym, refl, ap, ◌∙◌, mul-le-mul_right, mod-lt, mul_comm, div-lt_iff_lt-mul, div-add-mod', add-one, arith, ext_get_or, below_more}
 use mathlib.Core.Path.{fun_ext}
+use borrow.Rule.Slice.PartMut.{put_mid}
+use Rattle.std.specs.List.{between}
+use Rattle.std.proofs.lemmas.List.Edits.{length-between, get_or-between}
 use Rattle.kernels_model.specs.Fixed.{planes_each, margin}
 use Rattle.kernels_model.specs.Sum.{sum, Plane, Planes, running, down, finish}
 use Rattle.kernels_model.specs.Rounding.{shown_value, shown_matte}
-use Rattle.plate_model.specs.Fixed.{scratch_planes}
 use Rattle.plate_model.specs.declared.size.Size.{Size}
 use Rattle.plate_model.specs.Layout.{wide, high, cell, places, column_of, row_of}
 use Rattle.plate_model.specs.declared.state.State.{State}
 use Rattle.plate_model.specs.Lent.{views}
-use Rattle.plate_model.specs.declared.state.Outcome.TheVariants.{Accepted}
 use Rattle.plate_model.specs.Refusal.{show_check}
 use Rattle.kernels_model.specs.Listed.{zeros, list_to}
 use Rattle.plate_model.specs.Calls.{stored, sum_at, shown, answer_of, show_by}
 use Rattle.plate.specs.Passes.{Channel, planes_in, slope_sums, down_from, sums_end, matte_after, SummedTo}
-use Rattle.plate.specs.Showing.{Image, light_channel, BothIn, BothTo, BothSummed, RowShown, sum_in, ShownTo, TotalReady}
+use Rattle.plate.specs.Showing.{Image, image_of, light_channel, BothTo, BothSummed, RowRounded, RowShown, sum_in, ShownTo}
 use Rattle.plate.specs.Showing.{ShowReady}
+use Rattle.plate.proofs.Laws.Numbers.Parts.{part_written}
 use Rattle.plate.proofs.Laws.Checks.Lengths.{show_accepted}
 use Rattle.plate_model.proofs.Numbers.Lists.{length-list_to, get_or_list_to}
 
@@ -47,6 +50,28 @@ row_finished light image m s i l d columns both light-at matte-at =
           finished_at (matte_after light) m s (image.first + i) (image.first + x) (d + x) both.matte_to (omega arith)
           (omega arith);
     }
+
+-- cells from a on, up to e, that show the sums which lie from l and from d on
+pub row_shown : (s light matte v v' o o' : List ℕ) (l l' d d' a e n : ℕ) → n ≡ e - a → a ≤ e → e ≤ length v → e ≤ length o
+    → light ≡ between l l' s → l' ≡ l + n → l' ≤ length s → matte ≡ between d d' s → d' ≡ d + n → d' ≤ length s
+    → RowRounded light matte v' o'
+    → RowShown s l d a n v (put_mid a (e - a) v v') o (put_mid a (e - a) o o')
+row_shown s light matte v v' o o' l l' d d' a e n many low v_in o_in light-is l_end l_in matte-is d_end d_in h =
+    rw many (record {
+      in_values = part_written v v' a e low v_in (omega (arith, h.values_long, long)) (λ c x. shown_value (get_or s (l + x) 0) (get_or s (d + x) 0))
+          (λ i g. h.values_are i (omega (arith, long, g)) ∙ rw (light_at i g, matte_at i g));
+      in_mattes = part_written o o' a e low o_in (omega (arith, h.mattes_long, long)) (λ c x. shown_matte (get_or s (d + x) 0))
+          (λ i g. h.mattes_are i (omega (arith, long, g)) ∙ rw (matte_at i g));
+    })
+  where
+    long : length light ≡ e - a
+    long = ap length light-is ∙ length-between s l l' l_in ∙ omega arith
+
+    light_at : (i : ℕ) → i < e - a → get_or light i 0 ≡ get_or s (l + i) 0
+    light_at i g = ap (λ (q : List ℕ). get_or q i 0) light-is ∙ get_or-between s l l' i 0 (omega arith)
+
+    matte_at : (i : ℕ) → i < e - a → get_or matte i 0 ≡ get_or s (d + i) 0
+    matte_at i g = ap (λ (q : List ℕ). get_or q i 0) matte-is ∙ get_or-between s d d' i 0 (omega arith)
 
 -- a cell of a row before row i is none of row i
 pub earlier_row : (w i x y j : ℕ) → x < w → y < i → y * w + x ≡ i * w + j → ⊥
@@ -90,33 +115,6 @@ showing_start light image m s v o to =
     }
 
 -- THE WHOLE
--- the sums of both channels fit into the scratch
-sums_fit : (n w h : ℕ) → n + margin ≤ w → 7 ≤ w → 7 ≤ h
-    → sums_end (matte_after (record { columns = n; wide = w; high = h; sums = 0; marks = 0 })) ≤ scratch_planes * (w * h)
-sums_fit n w h a b c =
-    let e : w ≡ 7 + (w - 7) = omega arith in
-    let f : h ≡ 7 + (h - 7) = omega arith in
-    many (w - 7) (h - 7) n w h e f a
-  where
-    many : (i j n w h : ℕ) → w ≡ 7 + i → h ≡ 7 + j → n + margin ≤ w
-        → sums_end (matte_after (record { columns = n; wide = w; high = h; sums = 0; marks = 0 })) ≤ scratch_planes * (w * h)
-    many i j n w h e f a = rw (e, f) (omega arith)
-
-pub ready_both : (z : Size) (light : Channel) (m s : List ℕ) → light ≡ light_channel z → TotalReady z m s → BothIn light s m
-ready_both z light m s e r =
-    rw e (record {
-      some = omega arith;
-      narrow = omega arith;
-      tall = omega arith;
-      sums_in =
-          omega (
-            arith,
-            sums_fit (z.reach + margin + z.width) (wide z) (high z) (omega arith) (omega arith) (omega arith),
-            r.scratch_is,
-          );
-      marks_in_fact = omega (arith, r.planes_are);
-    })
-
 -- the planes of a channel, from plane p on
 pub stored_is : (z : Size) (channel : Channel) (m : List ℕ) (p : ℕ) → channel.wide ≡ wide z → channel.high ≡ high z
     → channel.marks ≡ p * (wide z * high z) → stored z m p ≡ planes_in channel m
@@ -152,10 +150,6 @@ shown_list v W H F f e cells same =
     let g : j < W * H = omega arith in
     each_place W H (λ j. get_or v j 0) F f cells same j g ∙ sym (get_or_list_to f (W * H) j 0 g))
 
--- the image of a plate
-abbrev pub image_of : Size → Image
-image_of z = record { first = z.reach + margin; width = z.width; height = z.height }
-
 -- the finished sums of the image are those of its places
 module _ (z : Size) (m : List ℕ) where
   sum_is : (channel : Channel) (p : ℕ) → channel.wide ≡ wide z → channel.high ≡ high z → channel.marks ≡ p * (wide z * high z)
@@ -188,12 +182,12 @@ module _ (state : State) (m s₀ s s' v₀ v o₀ o : List ℕ) (r : ShowReady s
       shown_list o state.size.width state.size.height _ _ (same_o ∙ r.mattes_are) all.in_mattes
       (λ j. rw (matte_sum state.size m j))
 
-  pub all_shown : shown (answer_of Accepted 0 state) s' v o ≡ show_by Accepted state m (views s₀ v₀ o₀)
+  pub all_shown : shown (answer_of (Ok tt) 0 state) s' v o ≡ show_by (Ok tt) state m (views s₀ v₀ o₀)
   unfolding show_by
   all_shown = rw (clear, same_s, values_are, mattes_are)
 
 -- what an accepted check tells
-pub show_ready : (state : State) (m s v o : List ℕ) → show_check state (length m) (length s) (length v) (length o) ≡ Accepted
+pub show_ready : (state : State) (m s v o : List ℕ) → show_check state (length m) (length s) (length v) (length o) ≡ Ok tt
     → ShowReady state.size m s v o
 show_ready state m s v o e =
     let a = show_accepted state (length m) (length s) (length v) (length o) e in

@@ -1,37 +1,39 @@
 -- Sums of the image that are kept, and all of a show that keeps them.
-use Rattle.std.proofs.Common.{◌≡◌, ℕ, ◌+◌, ◌*◌, ◌<◌, ◌≤◌, List, length, get_or, set, refl, ◌∙◌, arith, below_more}
+use Rattle.std.specs.Prelude.{Ok}
+use Rattle.std.proofs.Common.{◌≡◌, ℕ, ◌+◌, ◌*◌, ◌<◌, ◌≤◌, List, length, get_or, take, drop, sym, refl, ◌∙◌, arith, below_more, length-take-le, get_or-take, get_or-drop}
 use Rattle.kernels_model.specs.Fixed.{planes_each}
+use Rattle.kernels_model.proofs.Numbers.Choices.{by_eq}
 use Rattle.plate_model.specs.Layout.{places}
 use Rattle.plate_model.specs.declared.state.State.{State}
 use Rattle.plate_model.specs.Lent.{views}
-use Rattle.plate_model.specs.declared.state.Outcome.TheVariants.{Accepted}
 use Rattle.plate_model.specs.Refusal.{show_kept_check}
 use Rattle.kernels_model.specs.Listed.{zeros}
 use Rattle.plate_model.specs.Calls.{sum_at, answer_of}
 use Rattle.plate_model.specs.Kept.{sums_of, sums_by, shows_kept, show_kept_by}
-use Rattle.plate.specs.Passes.{Channel, matte_after, row_start}
-use Rattle.plate.specs.Showing.{Image, light_channel, BothTo, BothSummed, RowShown, sum_in, ShownTo}
+use Rattle.plate.specs.Passes.{Channel, matte_after, row_start, Written}
+use Rattle.plate.specs.Showing.{Image, image_of, light_channel, BothTo, BothSummed, RowRounded, sum_in, ShownTo}
 use Rattle.plate.specs.Keeping.{RowKept, KeptTo, ShowKeptReady}
 use Rattle.plate_model.proofs.Numbers.Extents.{place_within, row_in}
 use Rattle.plate_model.proofs.Numbers.Lists.{two_lists}
 use Rattle.plate_model.proofs.Checks.Passed.{sizes_passed, length_passed}
-use Rattle.plate.proofs.Laws.Showing.Writes.{apart_two, out_of_two, Writing, writing_cell, writing_column}
-use Rattle.plate.proofs.Laws.Showing.Image.{RowFinished, earlier_row, each_place, image_of, light_sum, matte_sum, all_shown}
+use Rattle.plate.proofs.Laws.Showing.Writes.{out_of_two}
+use Rattle.plate.proofs.Laws.Showing.Image.{RowFinished, earlier_row, each_place, light_sum, matte_sum, all_shown}
 use Rattle.plate.proofs.Laws.Showing.Image.{show_ready}
 
 -- ONE ROW
--- one more column of it is kept
-pub keeping_next : (q s₀ s : List ℕ) (a b u v n i : ℕ) → u + n ≤ v → v + n ≤ length s₀ → i < n
-    → Writing 2 n (row_start u v) (λ c x. get_or q (row_start a b c + x) 0) s₀ s i 0
-    → Writing 2 n (row_start u v) (λ c x. get_or q (row_start a b c + x) 0) s₀
-    (set (set s (u + i) (get_or q (a + i) 0)) (v + i) (get_or q (b + i) 0)) (i + 1) 0
-keeping_next q s₀ s a b u v n i first last h old =
-    let R = row_start u v in
-    let X : ℕ → ℕ → ℕ = λ c x. get_or q (row_start a b c + x) 0 in
-    let apart = apart_two n u v first in
-    let one = writing_cell 2 n R X s₀ s _ i 0 _ apart h (omega arith) (omega arith) old refl refl in
-    let two = writing_cell 2 n R X s₀ _ _ i 1 _ apart h (omega arith) (omega arith) one refl refl in
-    writing_column 2 n R X s₀ _ i h two
+-- light's sums are kept, and then matte's
+pub row_kept : (q s₀ s s' : List ℕ) (a b u v n : ℕ) → u + n ≤ v → Written 1 n (λ c. u) (λ c i. get_or q (a + i) 0) s₀ s
+    → Written 1 n (λ c. v) (λ c i. get_or q (b + i) 0) s s' → RowKept q a b u v n s₀ s'
+row_kept q s₀ s s' a b u v n apart first then =
+    record {
+      same = then.same ∙ first.same;
+      done = λ c i l h.
+          by_eq c 0
+          (λ z. rw z (then.rest (u + i) (λ d j x g e. omega (arith, h, g, e)) ∙ first.done 0 i (omega arith) h))
+          (λ z. let o : c ≡ 1 = omega arith in rw o (then.done 0 i (omega arith) h));
+      rest = λ j out.
+          then.rest j (λ d i x h e. out 1 i (omega arith) h e) ∙ first.rest j (λ d i x h e. out 0 i (omega arith) h e);
+    }
 
 -- THE ROWS
 module _ (light : Channel) (image : Image) (m s k k' : List ℕ) (i l d : ℕ) (low : i < image.height)
@@ -89,28 +91,30 @@ keeping_start light image m s k to =
 module _ (state : State) (light : Channel) (m s₀ s s' v₀ v o₀ o k₀ k : List ℕ) (light_is : light ≡ light_channel state.size)
     (r : ShowKeptReady state.size m s₀ v₀ o₀ k₀) (same_s : length s ≡ length s₀) (same_k : length k ≡ length k₀)
     (done : KeptTo light (image_of state.size) m k state.size.height)
-    (seen : RowShown k 0 (places state.size) 0 (places state.size) v₀ v o₀ o) (clear : s' ≡ zeros (length s)) where
+    (seen : RowRounded (take (places state.size) k) (drop (places state.size) k) v o) (clear : s' ≡ zeros (length s)) where
   -- all rows are kept
   all : KeptTo (light_channel state.size) (image_of state.size) m k state.size.height
   all = rw light_is at done
+
+  -- light's are so many
+  many : length (take (places state.size) k) ≡ places state.size
+  many = length-take-le (places state.size) k (omega (arith, same_k, r.sums_are))
 
   -- what is rounded from the kept sums is what the first form shows
   rounded : ShownTo (light_channel state.size) (image_of state.size) m v o state.size.height
   rounded =
       record {
         in_values = λ x y f g.
-            (rw (at_zero (place x y)) at (seen.in_values.done 0 (place x y) (omega arith) (inside x y f g)))
-            ∙ rw (all.in_light x y f g, all.in_matte x y f g);
+            seen.values_are (place x y) (omega (arith, many, inside x y f g))
+            ∙ rw (get_or-take (places state.size) k (place x y) 0 (inside x y f g), get_or-drop (places state.size) k (place x y) 0)
+            (rw (all.in_light x y f g, all.in_matte x y f g));
         in_mattes = λ x y f g.
-            (rw (at_zero (place x y)) at (seen.in_mattes.done 0 (place x y) (omega arith) (inside x y f g)))
-            ∙ rw (all.in_matte x y f g);
+            seen.mattes_are (place x y) (omega (arith, many, inside x y f g))
+            ∙ rw (get_or-drop (places state.size) k (place x y) 0) (rw (all.in_matte x y f g));
       }
     where
       place : ℕ → ℕ → ℕ
       place x y = y * state.size.width + x
-
-      at_zero : (j : ℕ) → 0 + j ≡ j
-      at_zero j = omega arith
 
       inside : (x y : ℕ) → x < state.size.width → y < state.size.height → place x y < places state.size
       inside x y = place_within x y state.size.width state.size.height
@@ -125,17 +129,18 @@ module _ (state : State) (light : Channel) (m s₀ s s' v₀ v o₀ o k₀ k : L
       (matte_sum state.size m))
 
   -- and so the show has done what it should
-  pub all_kept : shows_kept (answer_of Accepted 0 state) (views s' v o) k ≡ show_kept_by Accepted state m (views s₀ v₀ o₀) k₀
+  pub all_kept : shows_kept (answer_of (Ok tt) 0 state) (views s' v o) k ≡ show_kept_by (Ok tt) state m (views s₀ v₀ o₀) k₀
   unfolding show_kept_by sums_by
   all_kept =
       rw (
-        all_shown state m s₀ s s' v₀ v o₀ o r.show same_s seen.in_values.same seen.in_mattes.same rounded clear,
+        all_shown state m s₀ s s' v₀ v o₀ o r.show same_s (seen.values_long ∙ many ∙ sym r.show.values_are)
+            (seen.mattes_long ∙ many ∙ sym r.show.mattes_are) rounded clear,
         sums_are,
       )
 
 -- what an accepted check tells
 pub show_kept_ready : (state : State) (m s v o k : List ℕ)
-    → show_kept_check state (length m) (length s) (length v) (length o) (length k) ≡ Accepted
+    → show_kept_check state (length m) (length s) (length v) (length o) (length k) ≡ Ok tt
     → ShowKeptReady state.size m s v o k
 unfolding show_kept_check
 show_kept_ready state m s v o k e =

@@ -1,9 +1,9 @@
 -- The rising lines take their marks, row by row from the bottom; then the channel's sums are ready for the first row.
-use Rattle.std.proofs.Common.{◌≡◌, ℕ, ◌+◌, ◌<◌, ◌≤◌, List, length, get_or, refl, ◌∙◌, arith, below_none, below_more}
+use Rattle.std.proofs.Common.{◌≡◌, ℕ, ◌+◌, ◌-◌, ◌<◌, ◌≤◌, List, length, get_or, refl, ◌∙◌, arith, below_none, below_more}
 use Rattle.kernels_model.specs.Sum.{sum}
 use Rattle.plate.specs.Passes.{Channel, rise_two, rise_one, fall_one, fall_two, planes_in, falling_one_at, falling_two_at}
 use Rattle.plate.specs.Passes.{rising_one_from, rising_two_from, rising_one_at, rising_two_at, down_from, starts_at, RowLaid, row_with}
-use Rattle.plate.specs.Passes.{row_start, rising_cell, RisingLines, ChannelIn, OnlySums, Summed, sums_end}
+use Rattle.plate.specs.Passes.{row_start, rising_cell, RisingLines, ChannelIn, OnlySums, Summed, sums_end, Written}
 use Rattle.plate.proofs.Laws.Showing.Starts.{Out, in_place, InPlace, rising_one_step, rising_two_step, rising_one_later}
 use Rattle.plate.proofs.Laws.Showing.Starts.{rising_two_later, rising_two_earlier, rising_two_other}
 use Rattle.plate.proofs.Laws.Showing.SlopeLines.{falling_start, rising_start, rising_laid}
@@ -17,6 +17,25 @@ channel_on p s m fits s1 e = omega arith
 pub record LayReady (p : Channel) (s m : List ℕ) : Type 0 where
   pub fits : ChannelIn p s m
   pub clear : (j : ℕ) → p.sums ≤ j → j < sums_end p → get_or s j 0 ≡ 0
+
+-- so they are once they are cleared, and nothing else is changed
+module _ (p : Channel) (s s' m : List ℕ) (n : ℕ) (all : n ≡ sums_end p - p.sums) (cleared : Written 1 n (λ c. p.sums) (λ c i. 0) s s') where
+  pub cleared_only : OnlySums p s s'
+  cleared_only =
+      record {
+        same = cleared.same;
+        before = λ j l. cleared.rest j (λ c i g h e. omega (arith, l, e));
+        after = λ j l. cleared.rest j (λ c i g h e. omega (arith, l, e, h));
+      }
+
+  pub cleared_ready : ChannelIn p s m → LayReady p s' m
+  cleared_ready fits =
+      record {
+        fits = channel_on p s m fits s' cleared.same;
+        clear = λ j f g.
+            let at : p.sums + (j - p.sums) ≡ j = omega arith in
+            rw at at (cleared.done 0 (j - p.sums) (omega arith) (omega arith));
+      }
 
 -- the rows from y on are laid
 pub record LaidFrom (p : Channel) (m s₀ s : List ℕ) (y : ℕ) : Type 0 where

@@ -1,11 +1,11 @@
 -- A row of a channel: one more column of its seven sums, and of the rising lines.
-use Rattle.std.proofs.Common.{◌≡◌, ℕ, ◌+◌, ◌-◌, ◌*◌, ◌%◌, ◌^◌, ◌<◌, ◌≤◌, List, length, get_or, refl, ap, ◌∙◌, add-one, arith, below_none, below_more}
+use Rattle.std.proofs.Common.{◌≡◌, ℕ, ◌+◌, ◌-◌, ◌*◌, ◌%◌, ◌^◌, ◌<◌, ◌≤◌, List, length, get_or, set, refl, ap, ◌∙◌, add-one, arith, below_none, below_more}
 use native.Mathlib.Nat.{mod-mod, add-mod-mod}
 use Rattle.kernels_model.specs.Fixed.{level, second_box, third_box}
 use Rattle.kernels_model.specs.Sum.{sum, Row}
 use Rattle.kernels_model.proofs.Sums.FiniteSums.{cong_add}
-use Rattle.plate.specs.Passes.{Starts, Across, Added, MarksOn, MarksOff, InOrder, BoxesMet, rise_two, rise_one, fall_one}
-use Rattle.plate.specs.Passes.{fall_two, mark_at, marks_in, onto, plus, third_row, second_row, level_row, row_with, row_without}
+use Rattle.plate.specs.Passes.{Starts, Across, InOrder, BoxesMet, rise_two, rise_one, fall_one}
+use Rattle.plate.specs.Passes.{fall_two, marks_in, onto, plus, third_row, second_row, level_row, row_with, row_without}
 use Rattle.plate.specs.Passes.{slopes_row, sum_start, sum_cell, row_start, rising_cell}
 use Rattle.plate.proofs.Laws.Showing.Writes.{Apart, apart_rows, apart_two, Writing, writing_start, writing_cell}
 use Rattle.plate.proofs.Laws.Showing.Writes.{writing_column}
@@ -97,16 +97,34 @@ summed m s₀ starts i a d1 d2 u1 u2 f r t x v ea e1 e2 f1 f2 ef er et ex ev =
         order : x + (a + (b + c + (u + w))) ≡ x + (a + b + c + u + w)
         order = omega arith
 
-module _ (m s₀ s s1 s2 s3 s4 : List ℕ) (starts : Starts) (n k i : ℕ) (sums next : Across) (f r t v : ℕ)
+-- a cell is added to, and what it then holds is handed out
+pub record Added (old new : List ℕ) (cell by result : ℕ) : Type 0 where
+  pub sum_is : result ≡ (get_or old cell 0 + by) % 2 ^ 64
+  pub cells : new ≡ set old cell result
+
+pub added : (s : List ℕ) (cell by mark new result : ℕ) → result ≡ (get_or s cell 0 + by) % 2 ^ 64 → new ≡ result → by ≡ mark
+    → Added s (set s cell new) cell mark result
+added s cell by mark new result e f g = record { sum_is = rw g at e; cells = ap (set s cell) f }
+
+-- a cell is taken off, and what it held before is handed out
+pub record TakenOff (old new : List ℕ) (cell by result : ℕ) : Type 0 where
+  pub held_is : result ≡ get_or old cell 0
+  pub cells : new ≡ set old cell ((get_or old cell 0 + (2 ^ 64 - 1) * by) % 2 ^ 64)
+
+pub taken_off : (s : List ℕ) (cell by mark new result : ℕ) → result ≡ get_or s cell 0
+    → new ≡ (get_or s cell 0 + (2 ^ 64 - 1) * by) % 2 ^ 64 → by ≡ mark → TakenOff s (set s cell new) cell mark result
+taken_off s cell by mark new result e f g = record { held_is = e; cells = ap (set s cell) (rw g at f) }
+
+module _ (m s₀ s s1 s2 s3 s4 s5 s6 : List ℕ) (starts : Starts) (n k i : ℕ) (sums next : Across) (d1 d2 u1 u2 f r t v : ℕ)
     (o : InOrder starts n (length s₀) k) (h : i < n) (old : SummingAt m s₀ s starts n i sums)
-    (boxes : BoxesMet m s s1 (starts.third + i) (starts.second + i) (starts.marks + i) starts.apart sums next)
-    (falling : MarksOn m s1 s2 (starts.falling_one + i) (starts.falling_two + i)
-    (starts.marks + i + fall_one * starts.apart)
-    (starts.marks + i + fall_two * starts.apart) f)
-    (rising : MarksOff m s2 s3 (starts.rising_one + i) (starts.rising_two + i) (starts.marks + i + rise_one * starts.apart)
-    (starts.marks + i + rise_two * starts.apart) r)
-    (all : t ≡ (next.level + (f + r)) % 2 ^ 64) (last : Added s3 s4 (starts.down + i) t v) where
-  pub summing_next : SummingAt m s₀ s4 starts n (i + 1) next
+    (boxes : BoxesMet m s s1 starts i sums next)
+    (one_on : Added s1 s2 (starts.falling_one + i) (marks_in m starts fall_one i) d1)
+    (two_on : Added s2 s3 (starts.falling_two + i) (marks_in m starts fall_two i) d2)
+    (one_off : TakenOff s3 s4 (starts.rising_one + i) (marks_in m starts rise_one i) u1)
+    (two_off : TakenOff s4 s5 (starts.rising_two + i) (marks_in m starts rise_two i) u2)
+    (falling : f ≡ (d1 + d2) % 2 ^ 64) (rising : r ≡ (u1 + u2) % 2 ^ 64)
+    (all : t ≡ (next.level + (f + r)) % 2 ^ 64) (last : Added s5 s6 (starts.down + i) t v) where
+  pub summing_next : SummingAt m s₀ s6 starts n (i + 1) next
   unfolding sum_cell third_row second_row level_row
   summing_next =
       let apart = sums_apart starts n (length s₀) k o in
@@ -124,34 +142,43 @@ module _ (m s₀ s s1 s2 s3 s4 : List ℕ) (starts : Starts) (n k i : ℕ) (sums
       (hand (second_row m s₀ starts) (marks_in m starts level) i _ t1) boxes.level_is in
       let w1 = writing_cell 7 n R X s₀ s _ i 0 _ apart h (omega arith) (omega (arith, o)) w0 t0 refl in
       let w2 = writing_cell 7 n R X s₀ _ s1 i 1 _ apart h (omega arith) (omega (arith, o)) w1 t1 boxes.cells in
-      let t2 = line_on s₀ starts.falling_one (marks_in m starts fall_one) i _ (w2.next 2 (omega arith) (omega arith) h) in
-      let w3 = writing_cell 7 n R X s₀ s1 _ i 2 _ apart h (omega arith) (omega (arith, o)) w2 t2 refl in
-      let t3 = line_on s₀ starts.falling_two (marks_in m starts fall_two) i _ (w2.next 3 (omega arith) (omega arith) h) in
-      let w4 = writing_cell 7 n R X s₀ _ s2 i 3 _ apart h (omega arith) (omega (arith, o)) w3 t3 falling.cells in
+      let t2 = one_on.sum_is
+      ∙ line_on s₀ starts.falling_one (marks_in m starts fall_one) i _ (w2.next 2 (omega arith) (omega arith) h) in
+      let w3 = writing_cell 7 n R X s₀ s1 s2 i 2 d1 apart h (omega arith) (omega (arith, o)) w2 t2 one_on.cells in
+      let t3 = two_on.sum_is
+      ∙ line_on s₀ starts.falling_two (marks_in m starts fall_two) i _ (w3.next 3 (omega arith) (omega arith) h) in
+      let w4 = writing_cell 7 n R X s₀ s2 s3 i 3 d2 apart h (omega arith) (omega (arith, o)) w3 t3 two_on.cells in
       let k4 = w4.next 4 (omega arith) (omega arith) h in
-      let w5 = writing_cell 7 n R X s₀ s2 _ i 4 _ apart h (omega arith) (omega (arith, o)) w4
-      (line_off s₀ starts.rising_one (marks_in m starts rise_one) i _ k4) refl in
-      let k5 = w4.next 5 (omega arith) (omega arith) h in
-      let w6 = writing_cell 7 n R X s₀ _ s3 i 5 _ apart h (omega arith) (omega (arith, o)) w5
-      (line_off s₀ starts.rising_two (marks_in m starts rise_two) i _ k5) rising.cells in
+      let w5 = writing_cell 7 n R X s₀ s3 s4 i 4 _ apart h (omega arith) (omega (arith, o)) w4
+      (line_off s₀ starts.rising_one (marks_in m starts rise_one) i _ k4) one_off.cells in
+      let k5 = w5.next 5 (omega arith) (omega arith) h in
+      let w6 = writing_cell 7 n R X s₀ s4 s5 i 5 _ apart h (omega arith) (omega (arith, o)) w5
+      (line_off s₀ starts.rising_two (marks_in m starts rise_two) i _ k5) two_off.cells in
       let k6 = w6.next 6 (omega arith) (omega arith) h in
-      let w7 = writing_cell 7 n R X s₀ s3 s4 i 6 _ apart h (omega arith) (omega (arith, o)) w6
-      (summed m s₀ starts i _ _ _ _ _ _ _ _ _ _ level_sum t2 t3 k4 k5 falling.sum_is rising.sum_is all k6 last.sum_is)
+      let w7 = writing_cell 7 n R X s₀ s5 s6 i 6 v apart h (omega arith) (omega (arith, o)) w6
+      (summed m s₀ starts i _ _ _ _ _ _ _ _ _ _ level_sum t2 t3 (one_off.held_is ∙ k4) (two_off.held_is ∙ k5) falling rising all k6
+      last.sum_is)
       last.cells in
-      record { row = writing_column 7 n R X s₀ s4 i h w7; third = third; second = second; level_sum = level_sum }
+      record { row = writing_column 7 n R X s₀ s6 i h w7; third = third; second = second; level_sum = level_sum }
 
 -- THE RISING LINES
-module _ (m s₀ s s' : List ℕ) (u v p g n i r : ℕ) (first : u + n ≤ v) (last : v + n ≤ length s₀) (h : i < n)
-    (old : Writing 2 n (row_start u v) (rising_cell m s₀ u v p g) s₀ s i 0)
-    (new : MarksOn m s s' (u + i) (v + i) (p + i + rise_one * g) (p + i + rise_two * g) r) where
-  pub laying_next : Writing 2 n (row_start u v) (rising_cell m s₀ u v p g) s₀ s' (i + 1) 0
+module _ (m s₀ s s1 s2 : List ℕ) (starts : Starts) (n i r1 r2 : ℕ) (first : starts.rising_one + n ≤ starts.rising_two)
+    (last : starts.rising_two + n ≤ length s₀) (h : i < n)
+    (old : Writing 2 n (row_start starts.rising_one starts.rising_two)
+    (rising_cell m s₀ starts.rising_one starts.rising_two starts.marks starts.apart) s₀ s i 0)
+    (one_on : Added s s1 (starts.rising_one + i) (marks_in m starts rise_one i) r1)
+    (two_on : Added s1 s2 (starts.rising_two + i) (marks_in m starts rise_two i) r2) where
+  pub laying_next : Writing 2 n (row_start starts.rising_one starts.rising_two)
+      (rising_cell m s₀ starts.rising_one starts.rising_two starts.marks starts.apart) s₀ s2 (i + 1) 0
   unfolding rising_cell
   laying_next =
-      let R = row_start u v in
-      let X = rising_cell m s₀ u v p g in
-      let apart = apart_two n u v first in
-      let t0 = line_on s₀ u (λ x. mark_at m (p + x) g rise_one) i _ (old.next 0 (omega arith) (omega arith) h) in
-      let w1 = writing_cell 2 n R X s₀ s _ i 0 _ apart h (omega arith) (omega arith) old t0 refl in
-      let t1 = line_on s₀ v (λ x. mark_at m (p + x) g rise_two) i _ (old.next 1 (omega arith) (omega arith) h) in
-      let w2 = writing_cell 2 n R X s₀ _ s' i 1 _ apart h (omega arith) (omega arith) w1 t1 new.cells in
-      writing_column 2 n R X s₀ s' i h w2
+      let R = row_start starts.rising_one starts.rising_two in
+      let X = rising_cell m s₀ starts.rising_one starts.rising_two starts.marks starts.apart in
+      let apart = apart_two n starts.rising_one starts.rising_two first in
+      let t0 = one_on.sum_is
+      ∙ line_on s₀ starts.rising_one (marks_in m starts rise_one) i _ (old.next 0 (omega arith) (omega arith) h) in
+      let w1 = writing_cell 2 n R X s₀ s s1 i 0 r1 apart h (omega arith) (omega arith) old t0 one_on.cells in
+      let t1 = two_on.sum_is
+      ∙ line_on s₀ starts.rising_two (marks_in m starts rise_two) i _ (w1.next 1 (omega arith) (omega arith) h) in
+      let w2 = writing_cell 2 n R X s₀ s1 s2 i 1 r2 apart h (omega arith) (omega arith) w1 t1 two_on.cells in
+      writing_column 2 n R X s₀ s2 i h w2

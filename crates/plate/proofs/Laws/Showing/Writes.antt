@@ -1,7 +1,7 @@
 -- Rows of a list that are written column by column, and of each column the rows in their order.
 use Rattle.std.proofs.Common.{◌≡◌, ℕ, zero, suc, ◌+◌, ◌<◌, ◌≤◌, List, length, get_or, set, refl, ◌∙◌, add-one, arith, length-set, get_or-set_other, get_or-set_same, below_more}
 use Rattle.kernels_model.proofs.Numbers.Choices.{by_lt, by_eq}
-use Rattle.plate.specs.Passes.{row_start, Written}
+use Rattle.plate.specs.Passes.{row_start}
 
 -- the rows share no cell
 abbrev pub Apart : ℕ → ℕ → (ℕ → ℕ) → Type 0
@@ -86,20 +86,3 @@ writing_column k n R v s₀ s i a old =
       next = λ d x y z. old.todo d (i + 1) y (omega arith) z;
       rest = old.rest;
     }
-
-pub writing_all : (k n : ℕ) (R : ℕ → ℕ) (v : ℕ → ℕ → ℕ) (s₀ s : List ℕ) (i : ℕ) → n ≤ i → Writing k n R v s₀ s i 0
-    → Written k n R v s₀ s
-writing_all k n R v s₀ s i a old =
-    record { same = old.same; done = λ c j x y. old.done c j x (omega arith); rest = old.rest }
-
--- one row alone
-pub writing_one : (n a : ℕ) (v : ℕ → ℕ → ℕ) (s₀ s : List ℕ) (i w : ℕ) → i < n → a + n ≤ length s₀
-    → Writing 1 n (λ c. a) v s₀ s i 0 → w ≡ v 0 i → Writing 1 n (λ c. a) v s₀ (set s (a + i) w) (i + 1) 0
-writing_one n a v s₀ s i w h f old e =
-    writing_column 1 n (λ c. a) v s₀ _ i h
-    (writing_cell 1 n (λ c. a) v s₀ s _ i 0 w (λ c d i j x y z u q. (omega arith, omega arith)) h (omega arith)
-    (omega arith) old e refl)
-
--- a cell after the one that was written
-pub later_cell : (s s' : List ℕ) (a b w : ℕ) → a < b → s' ≡ set s a w → get_or s' b 0 ≡ get_or s b 0
-later_cell s s' a b w l e = rw e (get_or-set_other s a b w 0 (λ q. omega arith))

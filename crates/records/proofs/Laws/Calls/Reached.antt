@@ -1,91 +1,70 @@
 -- Where a call of advance stands after so many bytes of its part, and what it has left when it is done.
-use mathlib.Core.Path.{◌≡◌, ap, sym, ◌∙◌}
-use mathlib.Core.List.{List, []}
-use Prim.Native.Nat.{ℕ, suc, ◌+◌, ◌≤◌, ◌<◌}
-use native.Mathlib.Numerals.{add-one}
-use native.Mathlib.Omega.{arith}
-use lib.ListN.{length, take, drop, get_or, length-append}
-use lib.Seq.{drop-cons, drop-length}
-use Rattle.records_model.specs.Text.{with_text}
+use Rattle.std.proofs.Common.{◌≡◌, ◌∙◌, refl, ap, sym, List, [], ◌∷◌, ℕ, suc, ◌+◌, ◌≤◌, ◌<◌, length, take, drop, get_or, arith}
+use Rattle.std.proofs.Common.{add-one, drop-cons}
+use lib.Seq.{drop-length}
 use Rattle.records_model.specs.Fixed.{full_from}
+use Rattle.records_model.specs.declared.buffers.Buffers.{Buffers}
 use Rattle.records_model.specs.declared.machine.Machine.{Machine}
-use Rattle.records_model.specs.declared.advance.Advanced.{Advanced}
-use Rattle.records_model.specs.Machine.{Buffers, Progress, fed, fed_on, feed_of, feed_all, takes, AdvanceLeft, advance_left}
-use Rattle.records_model.specs.Machine.{advanced_by, advance_call}
-use Rattle.records.specs.Fed.{fed_after}
-use Rattle.records.proofs.Laws.Writing.Slices.{written_none, written_two, written_fits}
+use Rattle.records_model.specs.Machine.{Progress, fed, fed_on, feed_of, feed_all, takes, advance_left, advance_call}
 use Rattle.records_model.proofs.Running.Advancing.{fed-next, takes_none, takes-next}
+use Rattle.records.specs.declared.text.Writer.{Writer}
+use Rattle.records.specs.Written.{Writes}
+use Rattle.records.proofs.Laws.Writing.Slices.{writes_nothing, writes_two}
 
--- after i bytes: what it would leave there, and what there is still to take
-pub record Reached (m : Machine) (b : Buffers) (input out : List ℕ) (now : Advanced) (held : Buffers) (after : List ℕ) (i : ℕ)
+-- after i bytes: the machine, the buffers and the text of those, and how many there are still to take
+pub record Reached (m : Machine) (b : Buffers) (input : List ℕ) (start : Writer) (now : Machine) (held : Buffers) (text : Writer) (i : ℕ)
     : Type 0 where
-  pub left_is : advance_left now held after ≡ advanced_by i (feed_all (fed m b []) (take i input)) out
+  pub machine_is : now ≡ (feed_all (fed m b []) (take i input)).machine
+  pub buffers_are : held ≡ (feed_all (fed m b []) (take i input)).buffers
+  pub text_is : Writes start (feed_all (fed m b []) (take i input)).text text
   pub to_take : takes (fed m b []) input ≡ i + takes (feed_all (fed m b []) (take i input)) (drop i input)
 
-pub reached_start : (m : Machine) (b : Buffers) (input out : List ℕ)
-    → Reached m b input out (record { machine = m; consumed = 0; written = 0 }) b out 0
+pub reached_start : (m : Machine) (b : Buffers) (input : List ℕ) (w : Writer) → w.at ≤ length w.out.now → Reached m b input w m b w 0
 unfolding feed_all
-reached_start m b input out = record { left_is = rw (written_none out 0); to_take = omega arith }
+reached_start m b input w h =
+    record { machine_is = refl; buffers_are = refl; text_is = writes_nothing w h; to_take = omega arith }
 
--- a byte more, whose text comes after the text before
-left-next : (f : Progress) (x i : ℕ) (out : List ℕ)
-    → length f.text + length (feed_of f.machine x f.buffers).text ≤ length out
-    → fed_after (record { machine = f.machine; consumed = i; written = length f.text })
-    (feed_of f.machine x f.buffers) (with_text out 0 f.text)
-    ≡ advanced_by (i + 1) (fed_on f x) out
-left-next f x i out fits =
-    let t = (feed_of f.machine x f.buffers).text in
-    let none : 0 + length f.text ≡ length f.text = omega arith in
-    let both = rw none at (written_two out 0 f.text t (omega arith)) in
-    rw (both, length-append f.text t)
-
-module _ {m : Machine} {b : Buffers} {input out : List ℕ} {now : Advanced} {held : Buffers} {after : List ℕ} {i : ℕ}
-    (r : Reached m b input out now held after i) where
-  -- the parts of what it would leave
+module _ {m : Machine} {b : Buffers} {input : List ℕ} {start : Writer} {now : Machine} {held : Buffers} {text : Writer} {i : ℕ}
+    (r : Reached m b input start now held text i) (none : start.at ≡ 0) where
+  -- what the bytes so far come to
   abbrev here : Progress
   here = feed_all (fed m b []) (take i input)
 
-  written_is : now.written ≡ length here.text
-  written_is = ap (λ (l : AdvanceLeft). l.answer.written) r.left_is
-
-  pub consumed_is : now.consumed ≡ i
-  consumed_is = ap (λ (l : AdvanceLeft). l.answer.consumed) r.left_is
-
-  pub reached_next : {next : Advanced} {kept : Buffers} {last : List ℕ}
-      → advance_left next kept last ≡ fed_after now (feed_of now.machine (get_or input i 0) held) after
-      → i < length input → now.written ≤ full_from → full_from ≤ length out → length after ≡ length out → length last ≡ length out
-      → Reached m b input out next kept last (i + 1)
-  reached_next {next} {kept} {last} e h room long same kept-long =
-      let x = get_or input i 0 in
-      let few : length here.text ≤ full_from = omega (arith, written_is) in
-      let more = takes-next here x (drop (suc i) input) few in
-      let step : advance_left next kept last
-      ≡ fed_after (record { machine = here.machine; consumed = i; written = length here.text })
-      (feed_of here.machine x here.buffers) (with_text out 0 here.text) =
-      e ∙ ap (λ (l : AdvanceLeft). fed_after l.answer (feed_of l.answer.machine x l.buffers) l.out) r.left_is in
-      let t = (feed_of here.machine x here.buffers).text in
-      let all : length (with_text (with_text out 0 here.text) (length here.text) t) ≡ length out =
-      ap (λ (l : AdvanceLeft). length l.out) (sym step) ∙ kept-long in
-      let first : length (with_text out 0 here.text) ≡ length out =
-      ap (λ (l : AdvanceLeft). length l.out) (sym r.left_is) ∙ same in
-      let fits = written_fits (with_text out 0 here.text) (length here.text) t (omega arith) (all ∙ sym first) in
+  pub reached_next : {next : Machine} {kept : Buffers} {last : Writer} (x : ℕ) → x ≡ get_or input i 0 → i < length input
+      → text.at ≤ full_from → next ≡ (feed_of now x held).machine → kept ≡ (feed_of now x held).buffers
+      → Writes text (feed_of now x held).text last → Reached m b input start next kept last (i + 1)
+  reached_next x is h few machine buffers more =
+      let room : length here.text ≤ full_from = omega (arith, r.text_is.at_is) in
+      let one = takes-next here x (drop (suc i) input) room in
+      let same : feed_of now x held ≡ feed_of here.machine x here.buffers = rw (r.machine_is, r.buffers_are) in
+      let all : feed_all (fed m b []) (take (i + 1) input) ≡ fed_on here x =
+      fed-next (fed m b []) input i h ∙ ap (λ (n : ℕ). fed_on here n) (sym is) in
+      let left : takes here (drop i input) ≡ suc (takes (fed_on here x) (drop (suc i) input)) =
+      ap (takes here) (drop-cons input i 0 h ∙ ap (λ (n : ℕ). n ∷ drop (suc i) input) (sym is)) ∙ one in
       record {
-        left_is = rw (fed-next (fed m b []) input i h) (step ∙ left-next here x i out (omega arith));
-        to_take = rw (fed-next (fed m b []) input i h, add-one i)
-            (omega (arith, r.to_take, ap (takes here) (drop-cons input i 0 h), more));
+        machine_is = rw (all, machine, same);
+        buffers_are = rw (all, buffers, same);
+        text_is = rw all (writes_two r.text_is (rw same at more));
+        to_take = rw (all, add-one i) (omega (arith, r.to_take, left));
       }
 
-  pub reached_full : full_from < now.written → advance_left now held after ≡ advance_call m input b out
+  -- where no more is taken, it has left what it has to
+  done : (n : ℕ) → n ≡ i → takes (fed m b []) input ≡ i
+      → advance_left (record { machine = now; consumed = n; written = text.at }) held text.out.now ≡ advance_call m input b start.out.now
   unfolding advance_call
-  reached_full h =
-      let none = takes_none here (drop i input) (omega (arith, written_is)) in
-      let all : takes (fed m b []) input ≡ i = omega (arith, r.to_take) in
-      rw all r.left_is
+  done n same all =
+      let long : text.at ≡ length here.text = omega (arith, r.text_is.at_is) in
+      rw (same, all, r.machine_is, r.buffers_are, long, r.text_is.slice_is, none)
 
-  pub reached_end : length input ≤ i → i ≤ length input → advance_left now held after ≡ advance_call m input b out
-  unfolding advance_call takes
-  reached_end h g =
-      let same : i ≡ length input = omega arith in
-      let none = ap (takes here) (ap (λ (j : ℕ). drop j input) same ∙ drop-length input) in
-      let all : takes (fed m b []) input ≡ i = omega (arith, r.to_take, none) in
-      rw all r.left_is
+  pub reached_full : (n : ℕ) → n ≡ i → full_from < text.at
+      → advance_left (record { machine = now; consumed = n; written = text.at }) held text.out.now ≡ advance_call m input b start.out.now
+  reached_full n same h =
+      let stops = takes_none here (drop i input) (omega (arith, r.text_is.at_is)) in
+      done n same (omega (arith, r.to_take, stops))
+
+  pub reached_end : (n : ℕ) → n ≡ i → i ≡ length input
+      → advance_left (record { machine = now; consumed = n; written = text.at }) held text.out.now ≡ advance_call m input b start.out.now
+  unfolding takes
+  reached_end n same h =
+      let stops : takes here (drop i input) ≡ 0 = ap (takes here) (ap (λ (j : ℕ). drop j input) h ∙ drop-length input) in
+      done n same (omega (arith, r.to_take, stops))

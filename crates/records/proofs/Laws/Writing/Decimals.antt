@@ -1,4 +1,4 @@
--- Laws of a number's digits: all but the last are those of its tenth, and a number below a power of 10 has few.
+-- Laws of a number's digits: how many there are, and that they are those that the library prints.
 use mathlib.Core.Path.{◌≡◌, ap, sym, ◌∙◌}
 use mathlib.Core.List.{List, [], ◌∷◌, ◌++◌}
 use Prim.Native.Nat.{ℕ, zero, suc, ◌+◌, ◌*◌, ◌/◌, ◌%◌, ◌^◌, ◌≤◌, ◌<◌}
@@ -6,8 +6,14 @@ use native.Mathlib.Nat.{pow-suc}
 use native.Mathlib.Omega.{arith}
 use borrow.Author.Tests.{lt-ltb, le-ltb}
 use lib.ListN.{length, length-append}
+use Rattle.std.specs.Fmt.{decimal as printed}
+use Rattle.std.proofs.lemmas.Fmt.{decimal_from_appends, length-decimal-le_succ}
 use Rattle.kernels_model.proofs.Numbers.Choices.{by_lt}
 use Rattle.records_model.specs.Text.{digit_zero, digits_by, decimal}
+
+pow_some : (d : ℕ) → 1 ≤ 10 ^ d
+pow_some zero = omega arith
+pow_some (suc d) = rw (pow-suc 10 d) (omega (arith, pow_some d))
 
 digits_one : (n k : ℕ) → k < 10 → digits_by n k ≡ (digit_zero + k) ∷ []
 unfolding digits_by
@@ -64,3 +70,26 @@ decimal_some k =
 -- a number of 64 bits has at most 20 digits
 pub decimal_long : (k : ℕ) → k < 2 ^ 64 → length (decimal k) ≤ 20
 decimal_long k h = decimal_short 19 k (omega arith)
+
+-- a number of at least d + 1 digits
+decimal_wide : (d k : ℕ) → 10 ^ d ≤ k → suc d ≤ length (decimal k)
+decimal_wide zero k h = decimal_some k
+decimal_wide (suc d) k h =
+    let above : 10 ^ d * 10 ≤ k = rw (pow-suc 10 d) at h in
+    by_lt k 10
+    (λ small. absurd (omega (arith, above, pow_some d)))
+    (λ large. omega (arith, decimal_longer k large, decimal_wide d (k / 10) (omega arith)))
+
+-- as many as its logarithm says, and one more
+pub decimal_digits : (d k : ℕ) → 10 ^ d ≤ k → k < 10 * 10 ^ d → length (decimal k) ≡ d + 1
+decimal_digits d k low high =
+    let below : k < 10 ^ suc d = rw (pow-suc 10 d) (omega arith) in
+    omega (arith, decimal_short d k below, decimal_wide d k low)
+
+-- they are the digits that the library prints
+pub decimal_is : (k : ℕ) → k < 2 ^ 64 → decimal k ≡ printed k
+unfolding decimal
+decimal_is k h =
+    digits_same k (suc k) k (omega arith) (omega arith)
+    ∙ decimal_from_appends digits_by (record { one = λ n m p. digits_one (suc n) m p; more = digits_more }) (suc k) k h
+    (omega (arith, length-decimal-le_succ k h))

@@ -1,4 +1,3 @@
--- The parts lent are long enough, and what the show leaves in them is what it leaves in the whole.
 use Rattle.std.proofs.Common.{ℕ, ◌*◌, ap}
 use Rattle.plate_model.specs.Fixed.{planes_in_all, scratch_planes}
 use Rattle.plate_model.specs.Lent.{views}

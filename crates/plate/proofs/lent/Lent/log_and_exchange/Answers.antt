@@ -1,0 +1,8 @@
+use Rattle.plate_model.specs.Calls.{changed, put_by}
+use Rattle.plate.proofs.lent.Lent.log_and_exchange.Goals as goal
+
+pub returns-clause-left : goal.returns-clause-left
+unfolding put_by changed
+returns-clause-left c =
+    let h = c.exchange-marks.ensures in
+    rw (c.accepted.ensures, h.marks_are, h.planes_are, h.pixels_are, c.pack_entry.ensures)

@@ -1,9 +1,0 @@
--- Each case ends after it begins.
-use Rattle.std.proofs.Common.{length, ◌-◌, ◌≤◌}
-use Rattle.records_cases.proofs.cases.Given as goal
-
-abbrev pub invariant-loop-at : goal.invariant-loop-at
-invariant-loop-at g l = l.at ≤ length l.input
-
-abbrev pub decreases-loop-at : goal.decreases-loop-at
-decreases-loop-at g l = length l.input - l.at
