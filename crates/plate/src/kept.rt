@@ -83,6 +83,7 @@ pub fn show_kept(
     accepted(0, state)
 }
 
+// The sums and the two pictures are lent one by one: a struct of them makes both calls slower, as `ReachedRow` says.
 impl Lent<'_> {
     ghost use Rattle.plate.specs.Lending.{lent_of, SameSlices};
 
@@ -121,7 +122,8 @@ impl Lent<'_> {
         }
     }
 
-    // Undoes the last put, and mends sums and pictures where either kernel reaches. A refused undo touches nothing.
+    // Undoes the last put, and mends sums and pictures where either kernel reaches. A refused undo touches nothing. The steps are
+    // those of `put_kept`, with another read and another change of the log: what both do is `check_kept`, `mend` and `exchange`.
     pub fn undo_kept(
         &mut self,
         state: State,

@@ -4,8 +4,8 @@ ghost use Rattle.plate_model.specs.Lent.{lengths_of};
 
 use plate_model::lent::LentLengths;
 
-// Planes, pixels and log. Each call is a method, which stands in the file of its name. Beside its answer it promises that it lends
-// the same slices on, by which a caller knows what its own hold after it.
+// Planes, pixels and log. The calls that change them are methods, in `open.rt`, `put.rt`, `undo.rt`, `fill.rt` and `kept.rt`. Each
+// promises beside its answer that the struct holds the same slices after it, by which a caller knows what its own hold then.
 #[derive(Drop)]
 pub struct Lent<'a> {
     pub planes: &'a mut [u64],

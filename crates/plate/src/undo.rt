@@ -12,7 +12,8 @@ use plate_model::state::{Answer, State};
 impl Lent<'_> {
     ghost use Rattle.plate.specs.Lending.{lent_of, SameSlices};
 
-    // Zeroes the last log entry, and puts the logged pixel back in its place.
+    // Zeroes the last log entry, and puts the logged pixel back in its place. What this and a put's `log_and_exchange` both do is
+    // `exchange`: one function for both would branch at the log and at the count, and what it promises would name both calls.
     pub(crate) fn unlog_and_exchange(&mut self, state: State, change: Change) -> Answer
         requires { UndoReady state change (lent_of self.old) }
         ensures left { leaves result (lent_of self.new) ≡ undo_by (Ok change) state (lent_of self.old) }

@@ -1,4 +1,5 @@
-// The plate, as it is defined: its numbers and types, the definitions and the statements, and their proofs. No function.
+// The plate, as it is defined: its numbers and types, the definitions and the statements, and their proofs. No function but those
+// that convert the types.
 #![tactic(auto)]
 
 pub mod change;

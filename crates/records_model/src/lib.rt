@@ -1,4 +1,5 @@
-// Records, as they are defined: their numbers and types, the definitions and the statements, and their proofs. No function.
+// Records, as they are defined: their numbers and types, the definitions and the statements, and their proofs. No function but
+// those that convert the types.
 #![tactic(auto)]
 
 pub mod advance;

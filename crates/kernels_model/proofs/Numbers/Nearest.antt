@@ -2,13 +2,17 @@
 use mathlib.Core.Path.{◌≡◌, sym, ap, ◌∙◌}
 use Prim.Native.Nat.{ℕ, ◌+◌, ◌*◌, ◌-◌, ◌/◌, ◌%◌, ◌<◌, ◌≤◌, min}
 use native.Mathlib.Omega.{arith}
-use native.Mathlib.Nat.{div-add-mod', mod-lt, mul-le-mul_right}
+use native.Mathlib.Nat.{div-add-mod', mod-lt, mul-le-mul_left, mul-le-mul_right}
 use lib.Arith.{digits_div}
 use Rattle.kernels_model.specs.Fixed.{value_top, matte_unit, matte_top}
 use Rattle.kernels_model.specs.Rounding.{nearest, even_from, nearest_even, shown_value, shown_matte}
 use Rattle.kernels_model.specs.Facts.{ToEven, EvenOnce, ValueFact, ValueTopFact, HalfUpOnce, NearestFact, MatteFact}
 use Rattle.kernels_model.specs.Facts.{MatteTopFact}
 use Rattle.kernels_model.proofs.Numbers.Choices.{by_lt}
+
+-- a quotient by 2 or more is at most half, so one more of it is still a number of 64 bits
+pub quotient_half : (a b : ℕ) → 2 ≤ b → 2 * (a / b) ≤ a
+quotient_half a b two = omega (arith, div-add-mod' a b, mul-le-mul_left (a / b) two)
 
 -- A HALF UPWARDS
 -- q is nearest to a / b where 2 q b reaches 2 a + b but for less than 2 b
