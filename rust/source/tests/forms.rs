@@ -47,6 +47,12 @@ fn compiled(text: &str, functions: &[Function]) -> Vec<Fault> {
     read.unwrap_or_else(|fault| panic!("{text}: {fault}"))
 }
 
+/// What is wrong below a `start` that is added to the text, of which the compiler says what it runs.
+fn started(text: &str, functions: &[Function], runs: &str, body: &str) -> Vec<Fault> {
+    let text = format!("{text} fn start(n: u64) {{ {body} }}");
+    compiled(&text, &[functions, &[("first::start", runs, false)]].concat())
+}
+
 fn in_first(text: &str) -> Vec<Fault> {
     faults(&[("first/src/lib.rt", text)]).unwrap_or_else(|fault| panic!("{text}: {fault}"))
 }
@@ -289,8 +295,9 @@ fn what_the_compiler_runs() {
         impl S { fn deep(self) { [0] } } impl From<T> for S { fn from(t: T) -> S { [S][0] } } ";
     let (deep, of_t) = (("first::S::deep", "", true), ("first::T::deep", "", false));
     let from = ("first::SFromT::from", "", true);
-    let all = [deep, of_t, from, ("first::TPartialEq::eq", "core::any", false)];
-    let core = [("core::any", "core::below", false), ("core::below", "", true)];
+    let eq = ("first::TPartialEq::eq", "core::any", false);
+    let (any, below) = (("core::any", "core::below", false), ("core::below", "", true));
+    let functions = [deep, of_t, from, eq, any, below];
     for (item, runs, body) in [
         ("first::S::deep", "first::S::deep", "n.deep()"),
         ("", "first::T::deep", "n.deep()"),
@@ -301,9 +308,7 @@ fn what_the_compiler_runs() {
         ("core::below", "first::TPartialEq::eq", "n == n"),
         ("core::below", "first::TPartialEq::eq", "T::eq(n, n)"),
     ] {
-        let text = format!("{text} fn start(n: u64) {{ {body} }}");
-        let faults =
-            compiled(&text, &[&all[..], &core, &[("first::start", runs, false)]].concat());
+        let faults = started(text, &functions, runs, body);
         match item {
             "" => assert!(faults.is_empty(), "{body}: {faults:#?}"),
             _ => assert_eq!(only(&faults), (item, &What::Array), "{body}"),
@@ -316,8 +321,9 @@ fn what_the_compiler_runs() {
 #[test]
 fn what_the_compiler_does_not_run() {
     let text = "struct T; impl T { fn deep(self) {} } struct S; ";
-    let core = [("core::any", "", false), ("first::T::deep", "", false)];
-    let lost = [("first::SFromT::from", "", false), ("first::TClone::clone", "", false)];
+    let functions =
+        ["core::any", "first::T::deep", "first::SFromT::from", "first::TClone::clone"]
+            .map(|name| (name, "", false));
     for (name, runs, body) in [
         ("other_any", "core::any", "n.other_any()"),
         ("u64::other_any", "core::any", "u64::other_any(n)"),
@@ -328,9 +334,7 @@ fn what_the_compiler_does_not_run() {
         ("first::SFromT::from", "first::SFromT::from", "n?"),
         ("clone", "first::TClone::clone", "n.clone()"),
     ] {
-        let text = format!("{text} fn start(n: u64) {{ {body} }}");
-        let faults =
-            compiled(&text, &[&core[..], &lost, &[("first::start", runs, false)]].concat());
+        let faults = started(text, &functions, runs, body);
         assert_eq!(only(&faults), ("first::start", &What::NotFound(name.into())), "{body}");
     }
 }
