@@ -6,14 +6,8 @@ use Rattle.plate_model.specs.declared.state.State.{State}
 use Rattle.plate_model.specs.Lent.{Views}
 use Rattle.plate_model.specs.Calls.{answer_of}
 use Rattle.plate_model.specs.Kept.{shows_kept, show_kept_by}
-use Rattle.plate.specs.Passes.{Channel, matte_after, Written, row_start}
+use Rattle.plate.specs.Passes.{Channel, matte_after}
 use Rattle.plate.specs.Showing.{Image, BothIn, BothTo, sum_in, ShowReady}
-
--- ONE ROW
--- light's are kept from `first` on and matte's from `second` on, and nothing else is changed
-abbrev pub RowKept : List ℕ → ℕ → ℕ → ℕ → ℕ → ℕ → List ℕ → List ℕ → Type 0
-RowKept scratch light matte first second width old new =
-    Written 2 width (row_start first second) (λ c x. slice_index scratch (row_start light matte c + x)) old new
 
 -- THE IMAGE
 -- the rows of both above the image are summed; it ends at the last column summed, its rows are in the planes, and there is

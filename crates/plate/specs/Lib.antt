@@ -1,5 +1,4 @@
--- What contracts inside this crate use. No statement of a model cites it, and of the contracts of public functions only those of
--- the methods of `Lent`, a type of this crate: they cite Lending.
+-- What contracts inside this crate use; no contract of a public function and no statement of a model cites it.
 pub mod Frame
 pub mod Asking
 pub mod Laying

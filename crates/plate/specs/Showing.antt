@@ -10,7 +10,7 @@ use Rattle.plate_model.specs.Layout.{wide, high, padded, places}
 use Rattle.plate_model.specs.declared.state.State.{State}
 use Rattle.plate_model.specs.Lent.{Views}
 use Rattle.plate_model.specs.Calls.{answer_of, shown, show_by}
-use Rattle.plate.specs.Passes.{Channel, sums_end, marks_end, matte_after, planes_in, Written, SummedTo}
+use Rattle.plate.specs.Passes.{Channel, sums_end, marks_end, matte_after, planes_in, SummedTo}
 pub use Rattle.plate.specs.declared.show.Image.{Image}
 
 -- BOTH CHANNELS
@@ -65,12 +65,6 @@ pub record RowRounded (light matte values mattes : List ℕ) : Type 0 where
   pub mattes_long : length mattes ≡ length light
   pub values_are : (x : ℕ) → x < length light → slice_index values x ≡ shown_value (slice_index light x) (slice_index matte x)
   pub mattes_are : (x : ℕ) → x < length light → slice_index mattes x ≡ shown_matte (slice_index matte x)
-
--- in lists, a row from a place on shows the sums that lie from others on
-pub record RowShown (scratch : List ℕ) (light matte first width : ℕ) (values₀ values mattes₀ mattes : List ℕ) : Type 0 where
-  pub in_values : Written 1 width (λ c. first)
-      (λ c x. shown_value (slice_index scratch (light + x)) (slice_index scratch (matte + x))) values₀ values
-  pub in_mattes : Written 1 width (λ c. first) (λ c x. shown_matte (slice_index scratch (matte + x))) mattes₀ mattes
 
 -- the rows of both above the image are summed; it ends at the last column summed, and its rows are in the planes
 pub record ImageReady (light : Channel) (image : Image) (scratch planes values mattes : List ℕ) : Type 0 where

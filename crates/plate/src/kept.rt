@@ -1,8 +1,8 @@
 // The second forms of show, put and undo. The show keeps the finished sums of the image: its passes are those of the first form,
 // and the pictures are rounded from the sums that are kept. The put and the undo are the first forms, and mend sums and pictures
 // where the old or the new kernel reaches.
-ghost use Rattle.std.specs.Prelude.{◌≡◌};
-ghost use Rattle.plate_model.specs.Lent.{ask, views_at_entry, views_at_exit, canvas_at_entry, canvas_at_exit};
+ghost use Rattle.std.specs.Prelude.{◌≡◌, length};
+ghost use Rattle.plate_model.specs.Lent.{ask, lent_now, SameSlices, views_at_entry, views_at_exit, canvas_at_entry, canvas_at_exit};
 ghost use Rattle.plate_model.specs.Kept.{leaves_kept, put_kept_call, undo_kept_call, show_kept_call, shows_kept};
 ghost use Rattle.plate.specs.Keeping.{KeepReady, KeptTo, ShowKeptReady, ShowKeptDone};
 
@@ -16,6 +16,17 @@ use crate::size::PlateSize;
 use crate::state::{accepted, refused};
 use plate_model::state::{Answer, State};
 
+// A row's finished sums kept. It goes by the column: `copy_from_slice` calls memmove, and the C library is to call nothing but
+// memset and memcpy.
+fn keep_row(kept: &mut [u64], row: &[u64])
+    requires { length kept.old ≡ length row.now }
+    ensures { kept.new ≡ row.now }
+{
+    for x in 0..row.len() {
+        kept[x] = row[x];
+    }
+}
+
 // The rows of the image: each is summed, and its sums are kept while they are at hand. Show has this loop too: one loop for both
 // would take what is done with a row as a closure, which would have to be callable whatever the row and however long its sums.
 fn keep_rows(sums: &mut [u64], scratch: &mut [u64], planes: &[u64], light: Channel, image: Image)
@@ -28,8 +39,8 @@ fn keep_rows(sums: &mut [u64], scratch: &mut [u64], planes: &[u64], light: Chann
         let (light_row, matte_row) = image.row_of(scratch, light);
         let first = row * image.width;
         let past = first + image.width;
-        sums[first..past].copy_from_slice(light_row);
-        sums[places + first..places + past].copy_from_slice(matte_row);
+        keep_row(&mut sums[first..past], light_row);
+        keep_row(&mut sums[places + first..places + past], matte_row);
     }
 }
 
@@ -85,8 +96,6 @@ pub fn show_kept(
 
 // The sums and the two pictures are lent one by one: a struct of them makes both calls slower, as `ReachedRow` says.
 impl Lent<'_> {
-    ghost use Rattle.plate.specs.Lending.{lent_of, SameSlices};
-
     // Puts a pixel, and mends sums and pictures where its kernel or the old one's reaches. A refused put touches nothing. The pixel
     // comes as the paper's arguments, its shape as a number, as it does to `put`.
     pub fn put_kept(
@@ -102,10 +111,12 @@ impl Lent<'_> {
         values: &mut [u16],
         mattes: &mut [u8],
     ) -> Answer
-        ensures left { leaves_kept result (lent_of self.new) (canvas_at_exit sums values mattes)
-            ≡ put_kept_call state (ask x y value opacity shape radius) (lent_of self.old)
+        ensures left { leaves_kept result (lent_now self.new.planes self.new.pixels self.new.log)
+            (canvas_at_exit sums values mattes)
+            ≡ put_kept_call state (ask x y value opacity shape radius)
+            (lent_now self.old.planes self.old.pixels self.old.log)
             (canvas_at_entry sums values mattes) }
-        ensures slices { SameSlices self.old self.new }
+        ensures slices { SameSlices self.old.planes self.new.planes self.old.pixels self.new.pixels self.old.log self.new.log }
     {
         let size = state.size;
         let checked = check_kept(size, sums.len(), values.len(), mattes.len());
@@ -131,9 +142,11 @@ impl Lent<'_> {
         values: &mut [u16],
         mattes: &mut [u8],
     ) -> Answer
-        ensures left { leaves_kept result (lent_of self.new) (canvas_at_exit sums values mattes)
-            ≡ undo_kept_call state (lent_of self.old) (canvas_at_entry sums values mattes) }
-        ensures slices { SameSlices self.old self.new }
+        ensures left { leaves_kept result (lent_now self.new.planes self.new.pixels self.new.log)
+            (canvas_at_exit sums values mattes)
+            ≡ undo_kept_call state (lent_now self.old.planes self.old.pixels self.old.log)
+            (canvas_at_entry sums values mattes) }
+        ensures slices { SameSlices self.old.planes self.new.planes self.old.pixels self.new.pixels self.old.log self.new.log }
     {
         let size = state.size;
         let checked = check_kept(size, sums.len(), values.len(), mattes.len());

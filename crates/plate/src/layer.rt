@@ -2,7 +2,7 @@
 ghost use Rattle.std.specs.Prelude.{◌≡◌, ℕ, ◌<◌, List, length, Ok};
 ghost use Rattle.kernels_model.specs.Share.{share_table};
 ghost use Rattle.plate_model.specs.Layout.{places};
-ghost use Rattle.plate_model.specs.Lent.{state_of, inputs};
+ghost use Rattle.plate_model.specs.Lent.{state_of, inputs, SameSlices};
 ghost use Rattle.kernels_model.specs.Listed.{zeros};
 ghost use Rattle.plate_model.specs.Calls.{answer_of};
 ghost use Rattle.plate.specs.Filling.{layer_of, inputs_read, layer_read, layer_size, Lawful, Roomy, Ready};
@@ -157,8 +157,6 @@ impl Filling<'_> {
 }
 
 impl Lent<'_> {
-    ghost use Rattle.plate.specs.Lending.{SameSlices};
-
     // Replaces every mark and every pixel, and empties the log: no marks are reported.
     pub(crate) fn refill(
         &mut self,
@@ -173,7 +171,7 @@ impl Lent<'_> {
         ensures refilled { Refilled layer (inputs values.now opacities.now depths.now)
             (length self.old.planes.now) (length self.old.log.now) self.new.planes.now
             self.new.pixels.now self.new.log.now }
-        ensures slices { SameSlices self.old self.new }
+        ensures slices { SameSlices self.old.planes self.new.planes self.old.pixels self.new.pixels self.old.log self.new.log }
     {
         clear(self.planes);
         clear(self.log);

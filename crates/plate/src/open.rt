@@ -1,6 +1,7 @@
 // Opening a plate.
 ghost use Rattle.std.specs.Prelude.{◌≡◌};
 ghost use Rattle.plate_model.specs.Layout.{size_from};
+ghost use Rattle.plate_model.specs.Lent.{lent_now, SameSlices};
 ghost use Rattle.plate_model.specs.Calls.{open_call, leaves};
 
 use crate::check::check_open;
@@ -11,12 +12,11 @@ use plate_model::size::Size;
 use plate_model::state::{Answer, State};
 
 impl Lent<'_> {
-    ghost use Rattle.plate.specs.Lending.{lent_of, SameSlices};
-
     // Sets planes, pixels, every log entry and the log count to 0. A refused open touches nothing and hands back a state of zeros.
     pub fn open(&mut self, width: usize, height: usize, reach: usize) -> Answer
-        ensures left { leaves result (lent_of self.new) ≡ open_call (size_from width height reach) (lent_of self.old) }
-        ensures slices { SameSlices self.old self.new }
+        ensures left { leaves result (lent_now self.new.planes self.new.pixels self.new.log)
+            ≡ open_call (size_from width height reach) (lent_now self.old.planes self.old.pixels self.old.log) }
+        ensures slices { SameSlices self.old.planes self.new.planes self.old.pixels self.new.pixels self.old.log self.new.log }
     {
         let size = Size {
             width,

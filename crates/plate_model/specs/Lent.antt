@@ -1,5 +1,5 @@
 -- What calls are given and lent.
-use Rattle.std.specs.Prelude.{List, ℕ, length}
+use Rattle.std.specs.Prelude.{◌≡◌, List, ℕ, length}
 use Rattle.std.specs.Borrow.{MutBor}
 use denote.Triple.Both.{Both}
 use Rattle.kernels_model.specs.Shape.{shape_of}
@@ -81,3 +81,16 @@ canvas_at_entry sums values mattes = canvas sums.entry.now values.entry.now matt
 
 abbrev pub canvas_at_exit : Borrowed → Borrowed → Borrowed → Canvas
 canvas_at_exit sums values mattes = canvas sums.exit.now values.exit.now mattes.exit.now
+
+-- planes, pixels and log where a struct holds the three slices
+abbrev pub lent_now : MutBor (List ℕ) → MutBor (List ℕ) → MutBor (List ℕ) → Lent
+lent_now planes pixels log = lent planes.now pixels.now log.now
+
+-- the slices that were lent are lent still, as long as they were, whatever they hold
+pub record SameSlices (planes₀ planes pixels₀ pixels log₀ log : MutBor (List ℕ)) : Type 0 where
+  pub planes_are : planes.ghost_name ≡ planes₀.ghost_name
+  pub pixels_are : pixels.ghost_name ≡ pixels₀.ghost_name
+  pub log_is : log.ghost_name ≡ log₀.ghost_name
+  pub planes_long : length planes.now ≡ length planes₀.now
+  pub pixels_long : length pixels.now ≡ length pixels₀.now
+  pub log_long : length log.now ≡ length log₀.now

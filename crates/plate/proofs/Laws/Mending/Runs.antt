@@ -13,9 +13,9 @@ use Rattle.plate_model.specs.Lent.{Canvas, canvas}
 use Rattle.plate_model.specs.declared.change.Change.{Change}
 use Rattle.plate.specs.Laying.{Amounts, times}
 use Rattle.plate.specs.Passes.{Written}
-use Rattle.plate.specs.Showing.{RowShown}
 use Rattle.plate.specs.Mending.{Given, GivenIn, given_at, amounts_at, light_then, matte_then, RunIn}
 use Rattle.plate.specs.Mending.{RunGiven, RowToMend, InRow, CellMended, CellSame, MendedWhere}
+use Rattle.plate.proofs.Laws.Showing.Image.{RowShown}
 use Rattle.plate.proofs.Laws.Numbers.Wraps.{wrap_more}
 use Rattle.plate_model.proofs.Numbers.Extents.{place_within, column_is, row_is}
 use Rattle.plate.proofs.Laws.Mending.Mended.{InRange, light_then_lem, matte_then_lem}

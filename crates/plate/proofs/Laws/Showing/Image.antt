@@ -15,8 +15,8 @@ use Rattle.plate_model.specs.Lent.{views}
 use Rattle.plate_model.specs.Refusal.{show_check}
 use Rattle.kernels_model.specs.Listed.{zeros, list_to}
 use Rattle.plate_model.specs.Calls.{stored, sum_at, shown, answer_of, show_by}
-use Rattle.plate.specs.Passes.{Channel, planes_in, slope_sums, down_from, sums_end, matte_after, SummedTo}
-use Rattle.plate.specs.Showing.{Image, image_of, light_channel, BothTo, BothSummed, RowRounded, RowShown, sum_in, ShownTo}
+use Rattle.plate.specs.Passes.{Written, Channel, planes_in, slope_sums, down_from, sums_end, matte_after, SummedTo}
+use Rattle.plate.specs.Showing.{Image, image_of, light_channel, BothTo, BothSummed, RowRounded, sum_in, ShownTo}
 use Rattle.plate.specs.Showing.{ShowReady}
 use Rattle.plate.proofs.Laws.Numbers.Parts.{part_written}
 use Rattle.plate.proofs.Laws.Checks.Lengths.{show_accepted}
@@ -50,6 +50,12 @@ row_finished light image m s i l d columns both light-at matte-at =
           finished_at (matte_after light) m s (image.first + i) (image.first + x) (d + x) both.matte_to (omega arith)
           (omega arith);
     }
+
+-- in lists, a row from a place on shows the sums that lie from others on
+pub record RowShown (scratch : List ℕ) (light matte first width : ℕ) (values₀ values mattes₀ mattes : List ℕ) : Type 0 where
+  pub in_values : Written 1 width (λ c. first)
+      (λ c x. shown_value (get_or scratch (light + x) 0) (get_or scratch (matte + x) 0)) values₀ values
+  pub in_mattes : Written 1 width (λ c. first) (λ c x. shown_matte (get_or scratch (matte + x) 0)) mattes₀ mattes
 
 -- cells from a on, up to e, that show the sums which lie from l and from d on
 pub row_shown : (s light matte v v' o o' : List ℕ) (l l' d d' a e n : ℕ) → n ≡ e - a → a ≤ e → e ≤ length v → e ≤ length o

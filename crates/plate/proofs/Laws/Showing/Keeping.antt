@@ -12,7 +12,7 @@ use Rattle.plate_model.specs.Calls.{sum_at, answer_of}
 use Rattle.plate_model.specs.Kept.{sums_of, sums_by, shows_kept, show_kept_by}
 use Rattle.plate.specs.Passes.{Channel, matte_after, row_start, Written}
 use Rattle.plate.specs.Showing.{Image, image_of, light_channel, BothTo, BothSummed, RowRounded, sum_in, ShownTo}
-use Rattle.plate.specs.Keeping.{RowKept, KeptTo, ShowKeptReady}
+use Rattle.plate.specs.Keeping.{KeptTo, ShowKeptReady}
 use Rattle.plate_model.proofs.Numbers.Extents.{place_within, row_in}
 use Rattle.plate_model.proofs.Numbers.Lists.{two_lists}
 use Rattle.plate_model.proofs.Checks.Passed.{sizes_passed, length_passed}
@@ -21,6 +21,11 @@ use Rattle.plate.proofs.Laws.Showing.Image.{RowFinished, earlier_row, each_place
 use Rattle.plate.proofs.Laws.Showing.Image.{show_ready}
 
 -- ONE ROW
+-- light's are kept from `first` on and matte's from `second` on, and nothing else is changed
+abbrev pub RowKept : List ℕ → ℕ → ℕ → ℕ → ℕ → ℕ → List ℕ → List ℕ → Type 0
+RowKept scratch light matte first second width old new =
+    Written 2 width (row_start first second) (λ c x. get_or scratch (row_start light matte c + x) 0) old new
+
 -- light's sums are kept, and then matte's
 pub row_kept : (q s₀ s s' : List ℕ) (a b u v n : ℕ) → u + n ≤ v → Written 1 n (λ c. u) (λ c i. get_or q (a + i) 0) s₀ s
     → Written 1 n (λ c. v) (λ c i. get_or q (b + i) 0) s s' → RowKept q a b u v n s₀ s'

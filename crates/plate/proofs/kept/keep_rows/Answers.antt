@@ -25,12 +25,12 @@ loop-row-preserved c =
     let fits = c.requires.fits.sums_in in
     let one = part_copied c.sum_both.new.scratch c.loop-row.sums _ light_from (sums_end light) first (first + image.width) image.width
     (omega arith) (omega arith) (omega (arith, place, now.same, c.requires.sums_are)) (omega (arith, c.requires.columns_are))
-    (omega (arith, sums.same, now.both.same, fits)) (c.copy_from_slice.ensures.after ∙ c.row_of.ensures.light_is) in
-    let mid = put_mid first (first + image.width - first) c.loop-row.sums c.copy_from_slice.new.self in
-    let two = part_copied c.sum_both.new.scratch mid c.copy_from_slice-in-loop-row.new.self matte_from (sums_end (matte_after light)) (places + first)
+    (omega (arith, sums.same, now.both.same, fits)) (c.keep_row.ensures ∙ c.row_of.ensures.light_is) in
+    let mid = put_mid first (first + image.width - first) c.loop-row.sums c.keep_row.new.kept in
+    let two = part_copied c.sum_both.new.scratch mid c.keep_row-in-loop-row.new.kept matte_from (sums_end (matte_after light)) (places + first)
     (places + (first + image.width)) image.width (omega arith) (omega arith)
     (omega (arith, place, one.same, now.same, c.requires.sums_are)) (omega (arith, c.requires.columns_are))
-    (omega (arith, sums.same, now.both.same, fits)) (c.copy_from_slice-in-loop-row.ensures.after ∙ c.row_of.ensures.matte_is) in
+    (omega (arith, sums.same, now.both.same, fits)) (c.keep_row-in-loop-row.ensures ∙ c.row_of.ensures.matte_is) in
     let kept = row_kept c.sum_both.new.scratch c.loop-row.sums _ _ light_from matte_from first (places + first) image.width
     (omega (arith, place)) one two in
     let next : image.first + (row + 1) ≡ image.first + row + 1 = omega arith in
