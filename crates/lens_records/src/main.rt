@@ -6,7 +6,7 @@ ghost use Rattle.std.specs.Prelude.{◌≡◌, ℕ, IfOk, MatchResult};
 ghost use Rattle.records_model.specs.Machine.{fresh, zeroed};
 ghost use Rattle.lens_records.specs.Feeding.{FedTo, FedFront};
 
-use records::advance::advance;
+use records::advance::advance_in;
 use records::{Buffers, Machine, Text, machine};
 use records_model::fixed::BUFFER;
 use std::io::Read;
@@ -55,7 +55,7 @@ impl Run {
             (λ n. FedFront self.old.machine self.old.buffers part.now n self.new.machine self.new.buffers)
             (λ _. (n : ℕ) × FedFront self.old.machine self.old.buffers part.now n self.new.machine self.new.buffers) }
     {
-        let next = advance(self.machine, part, &mut self.buffers, &mut self.text);
+        let next = advance_in(self.machine, part, &mut self.buffers, &mut self.text);
         self.machine = next.machine;
         write(rt, &self.text[..next.written])?;
         Ok(next.consumed)

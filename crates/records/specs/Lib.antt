@@ -2,3 +2,4 @@
 pub mod Written
 pub mod Room
 pub mod Performed
+pub mod Lending

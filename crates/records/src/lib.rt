@@ -2,6 +2,7 @@
 #![tactic(auto)]
 
 pub mod advance;
+mod lent;
 pub mod machine;
 mod perform;
 mod record;
@@ -10,5 +11,5 @@ mod text;
 
 pub use records_model::advance::Advanced;
 pub use records_model::buffers::Buffers;
-pub use records_model::fixed::Text;
+pub use records_model::fixed::{Log, Mattes, Pixels, Planes, Scratch, Text, Values};
 pub use records_model::machine::Machine;

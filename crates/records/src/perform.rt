@@ -3,11 +3,12 @@ ghost use Rattle.std.specs.Prelude.{◌≡◌};
 ghost use Rattle.plate_model.specs.Refusal.{returned};
 ghost use Rattle.records_model.specs.declared.effect.Stage.TheVariants.{Closed, Opened};
 ghost use Rattle.records_model.specs.Machine.{stopping, going_on, opening, answered, task_of};
+ghost use Rattle.records.specs.Lending.{buffers_of, SameArrays};
 ghost use Rattle.records.specs.Performed.{Performs};
 
+use crate::lent::LentBuffers;
 use crate::request::{call_on_front, put_request, show_on_front};
 use plate::{Answer, Ask, Refusal, State};
-use records_model::buffers::Buffers;
 use records_model::effect::{Effect, Reply, Stage};
 use records_model::record::{Record, Stop};
 use records_model::request::{Request, Task};
@@ -102,8 +103,9 @@ pub(crate) fn task(stage: Stage, item: Record) -> Task
 }
 
 // The task done.
-pub(crate) fn perform(task: Task, buffers: &mut Buffers) -> Effect
-    ensures { Performs task buffers.old result buffers.new }
+pub(crate) fn perform(task: Task, buffers: &mut LentBuffers) -> Effect
+    ensures performs { Performs task (buffers_of buffers.old) result (buffers_of buffers.new) }
+    ensures same_arrays { SameArrays buffers.old buffers.new }
 {
     match task {
         Task::ToStand(stage) => Effect {
@@ -112,21 +114,16 @@ pub(crate) fn perform(task: Task, buffers: &mut Buffers) -> Effect
         },
         Task::ToStop(why) => stopping(why),
         Task::ToCall(request) => {
-            let a = call_on_front(
-                request,
-                &mut buffers.planes,
-                &mut buffers.pixels,
-                &mut buffers.log,
-            );
+            let a = call_on_front(request, buffers.planes, buffers.pixels, buffers.log);
             answered(request, a)
         }
         Task::ToShow(state) => {
             let a = show_on_front(
                 state,
-                &buffers.planes,
-                &mut buffers.scratch,
-                &mut buffers.values,
-                &mut buffers.mattes,
+                buffers.planes,
+                buffers.scratch,
+                buffers.values,
+                buffers.mattes,
             );
             going_on(Reply::Pictures(state.size), a)
         }

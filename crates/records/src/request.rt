@@ -1,7 +1,8 @@
 // What a record asks of the plate. There is one path to it: the call is lent the front of planes and pixels.
-ghost use Rattle.std.specs.Prelude.{◌≡◌};
+ghost use Rattle.std.specs.Prelude.{◌≡◌, length};
 ghost use Rattle.plate_model.specs.Calls.{leaves, shows};
 ghost use Rattle.plate_model.specs.Lent.{lent_at_entry, lent_at_exit, views_at_entry, views_at_exit};
+ghost use Rattle.records_model.specs.Fixed.{planes_room};
 ghost use Rattle.records_model.specs.Machine.{lent_cells, lent_places, put_request, request_size, request_call, requested};
 ghost use Rattle.records_model.specs.Machine.{show_requested};
 ghost use Rattle.records.specs.Room.{CountedFor};
@@ -97,7 +98,7 @@ pub(crate) fn call_on_front(
     )
 }
 
-// And a show.
+// And a show. It says how long its planes are, since no proof reads that from an array behind a struct's field.
 pub(crate) fn show_on_front(
     state: State,
     planes: &Planes,
@@ -105,8 +106,9 @@ pub(crate) fn show_on_front(
     values: &mut Values,
     mattes: &mut Mattes,
 ) -> Answer
-    ensures { shows result (views_at_exit scratch values mattes)
+    ensures shown { shows result (views_at_exit scratch values mattes)
         ≡ show_requested state planes.now (views_at_entry scratch values mattes) }
+    ensures planes_are { length planes.now ≡ planes_room }
 {
     let lent = room(state.size);
     let cells = PLANES * lent.cells;

@@ -8,8 +8,8 @@ ghost use Rattle.records_model.specs.Machine.{reply_text};
 ghost use Rattle.records.specs.Written.{HasRoom, Writes, WritesIn, cell_of};
 ghost use Rattle.records.specs.Room.{number_room, line_room, cell_room, row_room, rows_room, Printable};
 
+use crate::lent::LentBuffers;
 use plate::Size;
-use records_model::buffers::Buffers;
 use records_model::effect::Reply;
 use records_model::record::Stop;
 
@@ -158,16 +158,16 @@ impl<'a> Writer<'a> {
 
     // A reply to record K.
     #[tactic(auto, using(crate::proofs::Laws::Writing::Slices::writes_nothing), unfolding(records_model::specs::Machine::reply_text))]
-    pub(crate) fn reply(&mut self, reply: Reply, k: u64, buffers: &Buffers)
+    pub(crate) fn reply(&mut self, reply: Reply, k: u64, buffers: &LentBuffers)
         requires room { HasRoom text_room self.old }
         requires printable { Printable reply }
-        ensures { Writes self.old (reply_text k reply buffers.now.values buffers.now.mattes) self.new }
+        ensures { Writes self.old (reply_text k reply buffers.now.values.now buffers.now.mattes.now) self.new }
     {
         match reply {
             Reply::Nothing => {}
             Reply::StoppedBy(why) => self.stopped(why, k),
             Reply::RefusedBy(number) => self.line(b"refused", number, k),
-            Reply::Pictures(size) => self.show(size, &buffers.values, &buffers.mattes),
+            Reply::Pictures(size) => self.show(size, buffers.values, buffers.mattes),
         }
     }
 }

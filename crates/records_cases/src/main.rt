@@ -44,7 +44,7 @@ impl Run {
 
     // A byte of a case's input, and the text that it brings.
     fn feed(&mut self, rt: &impl Print, byte: u8) -> io::Result<()> {
-        let next = records::advance::advance(
+        let next = records::advance::advance_in(
             self.machine,
             &[byte],
             &mut self.buffers,

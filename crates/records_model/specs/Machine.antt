@@ -8,7 +8,7 @@ use Rattle.plate_model.specs.Layout.{padded, places}
 use Rattle.plate_model.specs.declared.state.State.{State}
 use Rattle.plate_model.specs.Refusal.{Returned}
 use Rattle.plate_model.specs.declared.lent.Ask.{Ask}
-use Rattle.plate_model.specs.Lent.{Lent, lent, Views, views}
+use Rattle.plate_model.specs.Lent.{Lent, lent, Views, views, Borrowed}
 use Rattle.kernels_model.specs.Listed.{zeros}
 use Rattle.plate_model.specs.Calls.{Left, open_call, put_call, undo_call, Shown, show_call}
 use Rattle.plate_model.specs.Lists.{Byte, codes}
@@ -36,6 +36,17 @@ pub use Rattle.records_model.specs.declared.advance.Advanced.{Advanced}
 abbrev pub buffers : List ℕ → List ℕ → List ℕ → List ℕ → List ℕ → List ℕ → Buffers
 buffers planes pixels log scratch values mattes =
     record { planes = planes; pixels = pixels; log = log; scratch = scratch; values = values; mattes = mattes }
+
+-- those that a call is lent, as they are when it starts and when it ends
+abbrev pub at_entry : Borrowed → Borrowed → Borrowed → Borrowed → Borrowed → Borrowed → Buffers
+at_entry planes pixels log scratch values mattes =
+    buffers planes.entry.now pixels.entry.now log.entry.now
+    scratch.entry.now values.entry.now mattes.entry.now
+
+abbrev pub at_exit : Borrowed → Borrowed → Borrowed → Borrowed → Borrowed → Borrowed → Buffers
+at_exit planes pixels log scratch values mattes =
+    buffers planes.exit.now pixels.exit.now log.exit.now
+    scratch.exit.now values.exit.now mattes.exit.now
 
 -- a plate of more cells in a plane than there is room for is lent nothing, and the plate then refuses it
 abbrev pub if_room : Size → ℕ → ℕ

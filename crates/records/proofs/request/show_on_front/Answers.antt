@@ -4,8 +4,8 @@ use Rattle.plate_model.specs.Lent.{views}
 use Rattle.records.proofs.Laws.Lending.Requests.{show_is}
 use Rattle.records.proofs.request.show_on_front.Goals as goal
 
-pub returns : goal.returns
-returns c =
+pub returns-clause-shown : goal.returns-clause-shown
+returns-clause-shown c =
     let a = c.args in
     let lent = c.room-lent in
     show_is a.state a.planes.now (views a.scratch.now a.values.now a.mattes.now)

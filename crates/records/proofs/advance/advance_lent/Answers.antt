@@ -1,12 +1,16 @@
-use Rattle.std.proofs.Common.{◌∙◌, refl, ap, length, arith}
+use Rattle.std.proofs.Common.{◌∙◌, refl, ap, length, rules, arith}
 use Rattle.records.proofs.Laws.Calls.Texts.{written_within}
 use Rattle.records.proofs.Laws.Calls.Reached.{reached_start, reached_next, reached_full, reached_end}
 use Rattle.records.proofs.Laws.Writing.Slices.{writes_length}
-use Rattle.records.proofs.advance.advance.Goals as goal
+use Rattle.records.proofs.advance.advance_lent.Goals as goal
 
 pub loop-consumed-init : goal.loop-consumed-init
 loop-consumed-init c =
-    record { same_slice = refl; reached = reached_start c.args.m _ c.args.input.now _ (omega arith) }
+    record {
+      same_slice = refl;
+      same_arrays = search rules;
+      reached = reached_start c.args.m _ c.args.input.now _ (omega arith);
+    }
 
 pub returns-then-text-gt-FULL-clause-left : goal.returns-then-text-gt-FULL-clause-left
 returns-then-text-gt-FULL-clause-left c =
@@ -23,10 +27,12 @@ feed-machine-requires c =
 
 pub loop-consumed-preserved : goal.loop-consumed-preserved
 loop-consumed-preserved c =
+    let here = c.loop-consumed.invariant in
     let fed = c.feed-machine.ensures in
     record {
-      same_slice = fed.text.same_slice ∙ c.loop-consumed.invariant.same_slice;
-      reached = reached_next c.loop-consumed.invariant.reached c.new-text.ensures.none _ refl (omega arith) (omega arith)
+      same_slice = fed.text.same_slice ∙ here.same_slice;
+      same_arrays = search (rules, here.same_arrays, fed.same_arrays);
+      reached = reached_next here.reached c.new-text.ensures.none _ refl (omega arith) (omega arith)
           fed.machine fed.buffers fed.text;
     }
 
