@@ -22,13 +22,17 @@ struct Plate<const N: usize> {
 }
 
 impl<const N: usize> Plate<N> {
-    fn opened(reach: usize) -> Plate<N> {
-        let mut plate = Plate {
+    fn new() -> Plate<N> {
+        Plate {
             state: State::default(),
             planes: [0; N],
             pixels: [0; 3],
             log: [0; 2],
-        };
+        }
+    }
+
+    fn opened(reach: usize) -> Plate<N> {
+        let mut plate = Plate::new();
         plate.state = plate.open(3, reach).state;
         plate
     }
@@ -97,34 +101,66 @@ fn print_number(rt: &impl Print, a: Answer) -> io::Result<()> {
     println!(rt; "{number}")
 }
 
+// Each case is a function of its own, out of line: so the plates of two cases do not lie on the stack together.
+#[inline(never)]
+fn sizes_refused(rt: &impl Print) -> io::Result<()> {
+    print_number(rt, Plate::<NEAR>::new().open(0, 1))
+}
+
+#[inline(never)]
+fn lengths_refused(rt: &impl Print) -> io::Result<()> {
+    print_number(rt, Plate::<SHORT>::new().open(3, 1))
+}
+
 // A put of a pixel that is lawful but for what is given, beside a stored word.
+#[inline(never)]
 fn put_refused(rt: &impl Print, x: usize, value: u16, shape: u8, word: u64) -> io::Result<()> {
     let mut plate = Plate::<NEAR>::opened(1);
     plate.pixels[1] = word;
     print_number(rt, plate.put(x, value, shape, 1))
 }
 
+#[inline(never)]
+fn radius_refused(rt: &impl Print) -> io::Result<()> {
+    print_number(rt, Plate::<FAR>::opened(3).put(1, 100, 1, 2))
+}
+
+#[inline(never)]
+fn log_refused(rt: &impl Print, count: usize) -> io::Result<()> {
+    print_number(rt, Plate::<NEAR>::opened(1).put_without_log(count))
+}
+
+#[inline(never)]
+fn undo_refused(rt: &impl Print) -> io::Result<()> {
+    print_number(rt, Plate::<NEAR>::opened(1).undo())
+}
+
+#[inline(never)]
+fn fill_refused(rt: &impl Print, focus: u32, depth: u32) -> io::Result<()> {
+    print_number(rt, Plate::<NEAR>::opened(1).fill(focus, depth))
+}
+
 fn main(rt: HostRuntime) -> io::Result<()> {
     // 1: W = 0
-    print_number(&rt, Plate::<NEAR>::opened(1).open(0, 1))?;
+    sizes_refused(&rt)?;
     // 2: planes of 14 × P − 1
-    print_number(&rt, Plate::<SHORT>::opened(1).open(3, 1))?;
+    lengths_refused(&rt)?;
     // 3: count 1, log 0
-    print_number(&rt, Plate::<NEAR>::opened(1).put_without_log(1))?;
+    log_refused(&rt, 1)?;
     // 4, 5 and 6: x = W, a value of 4,096, shape 6
     put_refused(&rt, 3, 100, 0, 0)?;
     put_refused(&rt, 1, 4096, 0, 0)?;
     put_refused(&rt, 1, 100, 6, 0)?;
     // 7: tent, R = 3, r = 2
-    print_number(&rt, Plate::<FAR>::opened(3).put(1, 100, 1, 2))?;
+    radius_refused(&rt)?;
     // 8: log 0, a put lawful otherwise
-    print_number(&rt, Plate::<NEAR>::opened(1).put_without_log(0))?;
+    log_refused(&rt, 0)?;
     // 9: undo after open
-    print_number(&rt, Plate::<NEAR>::opened(1).undo())?;
+    undo_refused(&rt)?;
     // 10: a word of 2^40
     put_refused(&rt, 1, 100, 0, 1099511627776)?;
     // 11: S = f. 12: a depth of 10,000,001. 17: a depth of f
-    print_number(&rt, Plate::<NEAR>::opened(1).fill(500, 20000))?;
-    print_number(&rt, Plate::<NEAR>::opened(1).fill(20000, 10000001))?;
-    print_number(&rt, Plate::<NEAR>::opened(1).fill(20000, 500))
+    fill_refused(&rt, 500, 20000)?;
+    fill_refused(&rt, 20000, 10000001)?;
+    fill_refused(&rt, 20000, 500)
 }

@@ -146,14 +146,13 @@ impl Plate {
         self.state = answer.state;
     }
 
+    // Each cell goes out by one write, with the space or the end of the line that comes after it.
     fn print_pictures(&self, rt: &impl Print) -> io::Result<()> {
         for (x, (value, matte)) in self.values.iter().zip(&self.mattes).enumerate() {
-            if 0 < x {
-                print!(rt; " ")?;
-            }
-            print!(rt; "{value}/{matte}")?;
+            let end = if x + 1 < PLACES { " " } else { "\n" };
+            print!(rt; "{value}/{matte}{end}")?;
         }
-        println!(rt)
+        Ok(())
     }
 
     fn print_total(&mut self, rt: &impl Print) -> io::Result<()> {
