@@ -10,8 +10,13 @@ use std::path::{Path, PathBuf};
 use std::process::Command;
 use std::{env, fs, io, process};
 
-/// The toolchain's crates whose functions a crate of the repository may run.
-const TOOLCHAIN: [&str; 2] = ["core", "std"];
+/// The toolchain's crates whose functions a crate of the repository may run, and those that these
+/// crates stand on.
+const TOOLCHAIN: [&str; 9] =
+    ["core", "io", "libc", "os", "std", "std_alloc", "std_collections", "std_heap", "std_io"];
+
+/// The call of what an address leads to: no path tells what that is, so it is never found.
+const BY_ADDRESS: &str = "CallV";
 
 /// What a crate is checked from, and what `rt lib` left of it, which is made anew where it is of
 /// other texts.
@@ -23,6 +28,8 @@ pub struct Compiled {
     /// The functions that it calls, and those of each `impl` that it hands to one of them.
     pub runs: BTreeSet<String>,
     pub has_array: bool,
+    /// Whether it is a function of C.
+    pub is_foreign: bool,
 }
 
 #[derive(Debug, Default)]
@@ -42,15 +49,21 @@ impl Form {
         Ok(Form::read(&texts?))
     }
 
-    /// A function starts with `["PATH",{"lifetimes":`. What it runs stands quoted among its words,
-    /// and the type of an array is `"Array"`.
+    /// A function starts with `["PATH",{"lifetimes":`. What it runs stands quoted among its words:
+    /// each function that one of the texts has, and what is called or handed on though none has it.
+    /// The type of an array is `"Array"`, and in place of a body a function of C has `"Foreign"`.
     pub fn read(texts: &[String]) -> Form {
         let bodies: BTreeMap<&str, &str> = texts.iter().flat_map(|text| bodies(text)).collect();
         let functions = bodies.iter().map(|(&name, body)| {
-            let quoted = body.split('"').skip(1).step_by(2);
-            let runs = quoted.filter(|&other| other != name && bodies.contains_key(other));
-            let runs = runs.map(str::to_string).collect();
-            (name.to_string(), Compiled { runs, has_array: body.contains("\"Array\"") })
+            let had =
+                quoted(body).filter(|word| bodies.contains_key(word) || *word == BY_ADDRESS);
+            let runs = had.chain(callees(body)).filter(|&other| other != name);
+            let compiled = Compiled {
+                runs: runs.map(str::to_string).collect(),
+                has_array: body.contains("\"Array\""),
+                is_foreign: body.contains("\"Foreign\""),
+            };
+            (name.to_string(), compiled)
         });
         Form { functions: functions.collect() }
     }
@@ -75,6 +88,19 @@ impl Form {
         }
         reached
     }
+}
+
+fn quoted(text: &str) -> impl Iterator<Item = &str> {
+    text.split('"').skip(1).step_by(2)
+}
+
+/// What a body has run, whether a text has it or not: a call is of `{"Fn":["PATH"` or of a function
+/// of an `impl`, and the body has the list of those, `"methods":["PATH","PATH"]`.
+fn callees(body: &str) -> impl Iterator<Item = &str> {
+    let called = body.split("{\"Fn\":[").skip(1).filter_map(|call| quoted(call).next());
+    let lists = body.split("\"methods\":[").skip(1);
+    let handed = lists.flat_map(|list| quoted(list.split(']').next().unwrap_or_default()));
+    called.chain(handed)
 }
 
 /// The functions of one crate: the name of each, and what stands from there to the next name.

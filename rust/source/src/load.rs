@@ -127,7 +127,7 @@ impl Loader<'_> {
             let found = self.program.find(place.module, None, &owner);
             let of = match found {
                 Some(Named::Item(_)) => found,
-                Some(Named::Outside) if name.is_some() => found,
+                Some(Named::Outside | Named::Standard(_)) if name.is_some() => found,
                 _ => {
                     return Err(format!(
                         "{}: there is no type {}",
@@ -137,7 +137,7 @@ impl Loader<'_> {
                 }
             };
             for item in items {
-                self.add_item(&place, item, of, name.clone());
+                self.add_item(&place, item, of.clone(), name.clone());
             }
         }
         Ok(())

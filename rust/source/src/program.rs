@@ -12,6 +12,10 @@ const NUMBERS: [&str; 17] = [
     "f32", "f64", "bool", "char", "str",
 ];
 
+/// Types and constants of `std` that hold no array. No text tells what others hold: so these alone
+/// may be named.
+const PLAIN: [&str; 1] = ["std::ops::Range"];
+
 /// What every module has of `std` without a `use`.
 const PRELUDE: &str = "Option Some None Result Ok Err From Into TryFrom TryInto Clone Copy \
     Default PartialEq Eq PartialOrd Ord Drop Iterator IntoIterator ExactSizeIterator \
@@ -20,12 +24,14 @@ const PRELUDE: &str = "Option Some None Result Ok Err From Into TryFrom TryInto 
 /// How often a name may stand for another one: more often only where it stands for itself.
 const DEEPEST_USE: usize = 16;
 
-#[derive(Clone, Copy, Debug, PartialEq, Eq)]
+#[derive(Clone, Debug, PartialEq, Eq)]
 pub enum Named {
     Module(usize),
     Item(usize),
-    /// What is in no text that was read.
+    /// What every module has and no text: a number type, or a name of the prelude.
     Outside,
+    /// A path of `std`, whether it has such a name or not, where no text of `std` was read.
+    Standard(String),
 }
 
 /// An item, and where it stands.
@@ -122,8 +128,10 @@ impl Program {
     }
 
     /// All functions of this name that belong to this type.
-    pub fn own(&self, of: Named, name: &str) -> Vec<usize> {
-        self.functions_where(|placed| placed.item.name == name && placed.owner == Some(of))
+    pub fn own(&self, of: &Named, name: &str) -> Vec<usize> {
+        self.functions_where(|placed| {
+            placed.item.name == name && placed.owner.as_ref() == Some(of)
+        })
     }
 
     /// Once all is placed: the functions by their paths, and what types derive.
@@ -140,9 +148,9 @@ impl Program {
     }
 
     /// What a path names in a module, in a block of the type `owner` where it stands in one.
-    pub fn find(&self, module: usize, owner: Option<Named>, path: &[String]) -> Option<Named> {
+    pub fn find(&self, module: usize, owner: Option<&Named>, path: &[String]) -> Option<Named> {
         match path.split_first()? {
-            (first, rest) if first == "Self" => self.members(owner?, rest, 0),
+            (first, rest) if first == "Self" => self.members(owner?.clone(), rest, 0),
             _ => self.find_in(module, path, 0),
         }
     }
@@ -165,19 +173,20 @@ impl Program {
     }
 
     fn member(&self, of: Named, name: &str, depth: usize) -> Option<Named> {
-        match (of, name) {
+        match (&of, name) {
             (Named::Module(_), "self") => Some(of),
-            (Named::Module(module), "super") => self.modules[module].parent.map(Named::Module),
-            (Named::Module(module), _) => self.in_scope(module, name, depth),
-            (Named::Item(item), _) => self.of_type(item, name),
+            (Named::Module(module), "super") => self.modules[*module].parent.map(Named::Module),
+            (Named::Module(module), _) => self.in_scope(*module, name, depth),
+            (Named::Item(item), _) => self.of_type(*item, name),
             (Named::Outside, _) => Some(Named::Outside),
+            (Named::Standard(path), _) => Some(Named::Standard(format!("{path}::{name}"))),
         }
     }
 
     /// What is named by a type and is no function of it: a variant, or a constant.
-    pub fn find_in_type(&self, of: Named, name: &str) -> Option<usize> {
+    pub fn find_in_type(&self, of: &Named, name: &str) -> Option<usize> {
         match of {
-            Named::Item(item) => match self.of_type(item, name) {
+            Named::Item(item) => match self.of_type(*item, name) {
                 Some(Named::Item(found)) if !self.is_function(found) => Some(found),
                 _ => None,
             },
@@ -196,11 +205,12 @@ impl Program {
         own.find(|&item| self.items[item].item.name == name).map(Named::Item)
     }
 
-    /// A name of the module itself, or one that it brings in: by name, or with all of a module.
+    /// A name of the module itself, or one that it brings in: by name, or with all of a module,
+    /// which of a module of `std` are those of `PLAIN`.
     fn in_scope(&self, module: usize, name: &str, depth: usize) -> Option<Named> {
         let Module { names, uses, .. } = &self.modules[module];
         if let Some(named) = names.get(name) {
-            return Some(*named);
+            return Some(named.clone());
         }
         if depth == DEEPEST_USE {
             return None;
@@ -209,7 +219,13 @@ impl Program {
         let mut by_name = uses.iter().filter(|brought| brought.name == name);
         let mut by_all = uses.iter().filter(|brought| brought.name == "*");
         by_name.find_map(|brought| find(&brought.path)).or_else(|| {
-            by_all.find_map(|brought| self.member(find(&brought.path)?, name, depth + 1))
+            by_all.find_map(|brought| match find(&brought.path)? {
+                Named::Standard(path) => {
+                    let path = format!("{path}::{name}");
+                    is_plain(&path).then_some(Named::Standard(path))
+                }
+                of => self.member(of, name, depth + 1),
+            })
         })
     }
 
@@ -231,9 +247,21 @@ impl Program {
         let Root { needs, .. } = roots.find(|root| root.module == own)?;
         let known = name == STANDARD || needs.iter().any(|need| need == name);
         let root = self.roots.get(name).filter(|_| known);
-        let mut prelude = PRELUDE.split_whitespace();
-        let outside =
-            name == STANDARD || NUMBERS.contains(&name) || prelude.any(|word| word == name);
-        root.map(|root| Named::Module(root.module)).or(outside.then_some(Named::Outside))
+        root.map(|root| Named::Module(root.module)).or_else(|| untold(name))
     }
+}
+
+/// Whether a path of `std` is that of a type or a constant which is known to hold no array.
+pub fn is_plain(path: &str) -> bool {
+    PLAIN.contains(&path)
+}
+
+/// What no text has.
+fn untold(name: &str) -> Option<Named> {
+    let mut prelude = PRELUDE.split_whitespace();
+    if name == STANDARD {
+        return Some(Named::Standard(name.into()));
+    }
+    let outside = NUMBERS.contains(&name) || prelude.any(|word| word == name);
+    outside.then_some(Named::Outside)
 }

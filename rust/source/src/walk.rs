@@ -1,9 +1,9 @@
 //! All that calls run through, and the arrays among it.
 
-use crate::form::Form;
+use crate::form::{Compiled, Form};
 use crate::item::Item;
 use crate::mention::{How, Mention, array_types, array_values, locals, mentions};
-use crate::program::{Named, Placed, Program};
+use crate::program::{Named, Placed, Program, is_plain};
 use std::collections::btree_map::Entry;
 use std::collections::{BTreeMap, BTreeSet};
 use std::fmt;
@@ -29,7 +29,8 @@ const TURNS: [(&str, &str); 2] = [("into", "from"), ("try_into", "try_from")];
 pub enum What {
     /// A type `[T; n]`, a value `[a, b]`, `[v; n]` or a byte string.
     Array,
-    /// A name that stands for nothing, or a function that the compiler has and no text.
+    /// A name that stands for nothing, or for what of `std` may hold an array; and a function that
+    /// the compiler has run, where no text has it, or its form has not.
     NotFound(String),
     /// A function of C, whose text is not Rattle.
     Foreign,
@@ -159,27 +160,40 @@ impl<'a> Walk<'a> {
             }
         }
         for name in runs.into_iter().flatten() {
-            let found = self.program.function(name);
-            if found.is_none() && !self.program.is_made(name) && !lost.contains(last(name)) {
+            let found = self.reach_by_name(name, node);
+            let unwritten =
+                self.program.function(name).is_none() && !self.program.is_made(name);
+            if (!found || unwritten) && !lost.contains(last(name)) {
                 self.add_fault(node, *line, What::NotFound(name.clone()));
             }
-            self.reach_by_name(name, node);
         }
     }
 
-    fn reach_by_name(&mut self, name: &str, by: &Node) {
-        let found = self.program.function(name).map(Node::Item);
-        self.reach(found.unwrap_or_else(|| Node::Compiled(name.to_string())), Some(by));
+    /// Reaches the function of a name, and tells whether a text or the compiler's form has it.
+    fn reach_by_name(&mut self, name: &str, by: &Node) -> bool {
+        let written = self.program.function(name).map(Node::Item);
+        let compiled = || self.form.get(name).map(|_| Node::Compiled(name.to_string()));
+        let found = written.or_else(compiled);
+        let has = found.is_some();
+        found.into_iter().for_each(|found| self.reach(found, Some(by)));
+        has
     }
 
     fn visit_compiled(&mut self, node: &Node, name: &str) {
-        let Some(compiled) = self.form.get(name) else {
-            return;
-        };
-        if compiled.has_array {
+        let form = self.form;
+        let compiled = form.get(name).expect("a function that the form has");
+        let Compiled { runs, has_array, is_foreign } = compiled;
+        if *has_array {
             self.add_fault(node, 0, What::Array);
         }
-        compiled.runs.iter().for_each(|name| self.reach_by_name(name, node));
+        if *is_foreign {
+            self.add_fault(node, 0, What::Foreign);
+        }
+        for name in runs {
+            if !self.reach_by_name(name, node) {
+                self.add_fault(node, 0, What::NotFound(name.clone()));
+            }
+        }
     }
 
     fn path(&self, node: &Node) -> String {
@@ -248,33 +262,29 @@ impl Place<'_> {
 
     /// `Type::name(..)`, or the same of a module.
     fn called(&self, program: &Program, name: &str, before: &[String]) -> Option<Vec<usize>> {
-        let of = program.find(self.placed.module, self.placed.owner, before);
+        let of = program.find(self.placed.module, self.placed.owner.as_ref(), before)?;
+        if let Named::Module(_) = of {
+            let path = [before, &[name.to_string()]].concat();
+            return self.named(program, &path, How::Call);
+        }
+        let own = self.run(program, program.own(&of, name));
+        if !own.is_empty() || self.runs_made(program, name) {
+            return Some(own);
+        }
         match of {
-            Some(of @ (Named::Item(_) | Named::Outside)) => {
-                let own = self.run(program, program.own(of, name));
-                if !own.is_empty() || self.runs_made(program, name) {
-                    return Some(own);
-                }
-                let variant = program.find_in_type(of, name);
-                variant.map(|item| vec![item])
-            }
-            Some(Named::Module(_)) => {
-                let path = [before, &[name.to_string()]].concat();
-                self.named(program, &path, How::Call)
-            }
-            None => None,
+            Named::Standard(path) => self.standard(program, &format!("{path}::{name}")),
+            _ => program.find_in_type(&of, name).map(|item| vec![item]),
         }
     }
 
     /// A name in lower case that is no item's is that of a local value; so is one of a function
     /// that is not called, but where the compiler says that this function is run.
     fn named(&self, program: &Program, path: &[String], how: How) -> Option<Vec<usize>> {
-        let found = program.find(self.placed.module, self.placed.owner, path);
-        let first = &path[0];
+        let found = program.find(self.placed.module, self.placed.owner.as_ref(), path);
+        let first = path[0].as_str();
         let lower = first.starts_with(|letter: char| letter.is_lowercase() || letter == '_');
-        let may_be_local = path.len() == 1
-            && lower
-            && (how == How::Plain || self.locals.contains(first.as_str()));
+        let local = path.len() == 1 && lower && self.locals.contains(first);
+        let may_be_local = local || (path.len() == 1 && lower && how == How::Plain);
         match found {
             Some(Named::Item(found)) if may_be_local && program.is_function(found) => {
                 let run = self.runs.map(|_| self.run(program, vec![found]));
@@ -282,8 +292,16 @@ impl Place<'_> {
             }
             Some(Named::Item(found)) => Some(vec![found]),
             Some(Named::Outside) => Some(Vec::new()),
+            Some(Named::Standard(path)) if !local => self.standard(program, &path),
             _ => may_be_local.then(Vec::new),
         }
+    }
+
+    /// Of what `std` has no text is followed. A type or a constant of it is found where it is known
+    /// to hold no array; a function, called or not, where the compiler says that it is run here.
+    fn standard(&self, program: &Program, path: &str) -> Option<Vec<usize>> {
+        let found = is_plain(path) || self.runs_made(program, last(path));
+        found.then(Vec::new)
     }
 
     /// Those of functions that the compiler says are run here; all, where it says nothing.

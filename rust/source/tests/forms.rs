@@ -36,12 +36,19 @@ type Function<'a> = (&'a str, &'a str, bool);
 
 /// What is wrong below `start` of one text, where the compiler says what its functions run.
 fn compiled(text: &str, functions: &[Function]) -> Vec<Fault> {
-    let form = functions.iter().map(|(name, runs, has_array)| {
+    let bodies = functions.iter().map(|(name, runs, has_array)| {
         let runs = runs.split_whitespace().map(|run| format!("{{\"Fn\":[\"{run}\"]}}"));
         let array = has_array.then(|| "\"Array\"".to_string());
-        let body = Vec::from_iter(runs.chain(array)).join(",");
-        format!("[\"{name}\",{{\"lifetimes\":0,\"body\":[{body}]}}]")
+        (*name, Vec::from_iter(runs.chain(array)).join(","))
     });
+    compiled_to(text, &Vec::from_iter(bodies))
+}
+
+/// The same, where the words of each function's body are given.
+fn compiled_to(text: &str, bodies: &[(&str, String)]) -> Vec<Fault> {
+    let form = bodies
+        .iter()
+        .map(|(name, body)| format!("[\"{name}\",{{\"lifetimes\":0,\"body\":[{body}]}}]"));
     let form = Form::read(&[format!("[{}]", Vec::from_iter(form).join(","))]);
     let read = faults_by(Sources::default(), &[("first/src/lib.rt", text)], &form);
     read.unwrap_or_else(|fault| panic!("{text}: {fault}"))
@@ -337,6 +344,110 @@ fn what_the_compiler_does_not_run() {
         let faults = started(text, &functions, runs, body);
         assert_eq!(only(&faults), ("first::start", &What::NotFound(name.into())), "{body}");
     }
+}
+
+/// What the compiler has run and its form does not have is not found, and a function of C has no
+/// text: called by name, handed on with an `impl`, or called by an address.
+#[test]
+fn what_the_compiler_does_not_have() {
+    let called = |name| format!("{{\"Call\":[{{\"Fn\":[\"{name}\",{{\"types\":[]}}]}}]}}");
+    let handed = |name| format!("{{\"methods\":[\"core::S::eq\",\"{name}\"]}}");
+    let by_address = "{\"CallV\":[{\"Copy\":0}]}".to_string();
+    let foreign = "{\"Foreign\":{\"symbol\":\"read\"}}".to_string();
+    let below = |start: String, any: String| {
+        let of_core = [("core::any", any), ("core::S::eq", String::new())];
+        let others = [("first::start", start), ("libc::read", foreign.clone())];
+        compiled_to("fn start(n: u64) { n == n }", &[of_core, others].concat())
+    };
+
+    let gone = What::NotFound("libc::gone".into());
+    for body in [called("libc::gone"), handed("libc::gone")] {
+        assert_eq!(only(&below(body.clone(), String::new())), ("first::start", &gone));
+        assert_eq!(only(&below(called("core::any"), body)), ("core::any", &gone));
+    }
+    for body in [called("libc::read"), handed("libc::read")] {
+        assert_eq!(only(&below(called("core::any"), body)), ("libc::read", &What::Foreign));
+    }
+    let faults = below(called("core::any"), by_address);
+    assert_eq!(only(&faults), ("core::any", &What::NotFound("CallV".into())));
+    for body in [called("core::S::eq"), handed("core::S::eq")] {
+        assert!(below(called("core::any"), body.clone()).is_empty(), "{body}");
+    }
+}
+
+/// A type that is known to hold no array, and functions that are run.
+#[test]
+fn names_of_std() {
+    for (runs, body) in [
+        ("", "fn start(n: std::ops::Range<u64>) { let m: std::ops::Range<u64> = n; }"),
+        ("", "use std::ops::Range; fn start(n: Range<u64>) { Range { start: 0, end: 3 } }"),
+        ("", "use std::ops::Range as Other; struct S(Other<u64>); fn start(s: S) {}"),
+        ("", "use std::{ops}; fn start(n: ops::Range<u64>) {}"),
+        ("", "use std::ops::*; fn start(n: Range<u64>) {}"),
+        ("", "mod a { pub use std::ops::Range; } fn start(n: a::Range<u64>) {}"),
+        ("core::any", "fn start() { std::gone::any(3); }"),
+        ("core::any", "fn start() { std::ops::Range::any(3); std::ops::Range::<u64>::any(3) }"),
+        ("core::any", "use std::gone::any; fn start() { any(3); other(any) } fn other() {}"),
+        ("core::any", "fn start() { let each = std::gone::any; }"),
+        ("", "use std::gone::any; fn start(any: u64) { any + 3 }"),
+        ("", "use std::gone::any; fn start() { let any = |n: u64| n; any(3) }"),
+    ] {
+        let functions = [("core::any", "", false), ("first::start", runs, false)];
+        let faults = compiled(body, &functions);
+        assert!(faults.is_empty(), "{body}: {faults:#?}");
+    }
+}
+
+/// Other types and constants, and functions not run, also where the compiler says nothing.
+#[test]
+fn names_of_std_that_are_not_found() {
+    for (item, name, text) in [
+        (
+            "start",
+            "std::array::IntoIter",
+            "fn start() { let copy: std::array::IntoIter<u64, 4096> = light; }",
+        ),
+        ("start", "std::gone::Row", "fn start() { let copy: std::gone::Row<4096> = light; }"),
+        ("start", "std::array::IntoIter", "fn start(n: &std::array::IntoIter<u64, 4096>) {}"),
+        ("start", "std::gone::Row", "fn start<T: From<std::gone::Row>>() {}"),
+        (
+            "S",
+            "std::array::IntoIter",
+            "struct S { row: std::array::IntoIter<u64, 4096> } fn start(s: S) {}",
+        ),
+        ("S", "std::gone::Row", "enum S { N, Row(std::gone::Row<4>) } fn start() { S::N }"),
+        ("ROW", "std::gone::ROW", "const ROW: u64 = std::gone::ROW[0]; fn start() { ROW }"),
+        ("Row", "std::gone::Row", "type Row = std::gone::Row; fn start(row: &[Row]) {}"),
+        ("start", "IntoIter", "use std::array::IntoIter; fn start(n: IntoIter<u64, 4>) {}"),
+        ("start", "Row", "use std::array::IntoIter as Row; fn start(n: Row<u64, 4>) {}"),
+        ("start", "array::IntoIter", "use std::array; fn start(n: array::IntoIter<u64, 4>) {}"),
+        ("start", "IntoIter", "use std::array::*; fn start(n: IntoIter<u64, 4>) {}"),
+        (
+            "start",
+            "a::Row",
+            "mod a { pub use std::array::IntoIter as Row; } fn start(n: a::Row<u64, 4>) {}",
+        ),
+        ("start", "std::array::ROW", "fn start() { std::array::ROW[0] }"),
+        ("start", "ROW", "use std::array::ROW; fn start() { let row = &ROW; }"),
+        ("start", "std::ops::Range::ROW", "fn start() { std::ops::Range::ROW; }"),
+        ("start", "other", "fn start() { std::ops::Range::<u64>::other(); }"),
+        ("start", "std::array::any", "fn start() { std::array::any(3); }"),
+        ("start", "std::array::any", "fn start() { other(std::array::any) } fn other() {}"),
+        ("start", "any", "use std::array::any; fn start() { any(3) }"),
+        ("start", "any", "use std::array::any; fn start() { let each = any; }"),
+        ("start", "std::array::IntoIter::any", "fn start() { std::array::IntoIter::any(3) }"),
+    ] {
+        let item = format!("first::{item}");
+        for functions in [&[][..], &[("first::start", "", false), ("core::any", "", false)]] {
+            let faults = compiled(text, functions);
+            assert_eq!(only(&faults), (&*item, &What::NotFound(name.into())), "{text}");
+        }
+    }
+
+    let text = "impl From<u8> for std::gone::Row { fn from(n: u8) -> Self {} } \
+        fn start(n: u8) { n.into() }";
+    let gone = What::NotFound("std::gone::Row".into());
+    assert_eq!(only(&compiled(text, &[])), ("first::RowFromU8::from", &gone));
 }
 
 #[test]

@@ -193,6 +193,54 @@ fn an_array_in_a_type_or_a_constant_that_they_name_is_found_and_named() {
     assert!(0 < types && 0 < constants, "{types} and {constants}");
 }
 
+/// A type, a constant and a function that is not run, in a body, and a type in a signature.
+#[test]
+fn what_std_has_is_not_found_in_any_of_these_functions() {
+    let engine = engine();
+    for function in engine.walk().functions() {
+        let placed @ Placed { item, file, .. } = engine.program.item(function);
+        let in_body = [
+            ("std::array::IntoIter", "let copy: std::array::IntoIter<u64, 4096> = light; "),
+            ("std::gone::Row", "let copy: std::gone::Row<4096> = light; "),
+            ("std::gone::ROW", "let copy = std::gone::ROW; "),
+            ("std::gone::row", "let copy = std::gone::row; "),
+        ]
+        .map(|(name, words)| (name, engine.with(placed, words)));
+        let open = item.types.iter().find(|token| token.is("(")).expect("a signature").at;
+        let words = "(copy: std::array::IntoIter<u64, 4096>, ";
+        let in_signature = engine.sources.edited(file, open, "(", words);
+        for (name, copy) in in_body.into_iter().chain([("std::array::IntoIter", in_signature)])
+        {
+            let lost = What::NotFound(name.into());
+            assert_eq!(engine.only_fault(&copy), (lost, engine.program.path(function)));
+        }
+    }
+}
+
+#[test]
+fn what_std_has_is_not_found_in_any_type_or_constant_that_they_name() {
+    let engine = engine();
+    let mut types = 0;
+    let mut constants = 0;
+    for item in engine.walk().items().filter(|item| !engine.program.is_function(*item)) {
+        let placed @ Placed { item: named, file, .. } = engine.program.item(item);
+        let (name, copy) = if named.code.is_some() {
+            constants += 1;
+            ("std::gone::ROW", engine.with(placed, "std::gone::ROW[0] + "))
+        } else if let Some(field) = named.types.iter().position(|token| token.is(":")) {
+            types += 1;
+            let kind = named.types[field + 1].at;
+            let words = "std::array::IntoIter<u64, 4096>, other: ";
+            ("std::array::IntoIter", engine.sources.edited(file, kind, "", words))
+        } else {
+            continue;
+        };
+        let lost = What::NotFound(name.into());
+        assert_eq!(engine.only_fault(&copy), (lost, engine.program.path(item)));
+    }
+    assert!(0 < types && 0 < constants, "{types} and {constants}");
+}
+
 /// A call that the compiler's form does not have, of the table of shares: by its path it is followed,
 /// and by a method's name it is not found.
 #[test]
