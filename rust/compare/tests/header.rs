@@ -39,9 +39,11 @@ fn readme_names_the_version() {
 
 #[cfg(feature = "proved")]
 mod with_engine {
+    use std::collections::BTreeSet;
     use std::fmt::Write;
+    use std::process::Command;
 
-    use compare::c::{C11, LANGUAGES, Watched, done, start, valgrind};
+    use compare::c::{C11, LANGUAGES, Watched, archive_folder, done, start, valgrind};
     use compare::say;
     use lens::{Layer, Lens, Pixel, Plate, Refusal, Shape, Totals};
 
@@ -69,6 +71,16 @@ mod with_engine {
             let program = language.program(Watched::No, &source(name), &folder);
             assert_eq!(done(&mut start(&program)), text, "{}", language.name);
         }
+    }
+
+    /// The two functions that README names: a program without a C library brings them itself.
+    #[test]
+    fn what_the_archive_calls() {
+        let archive = archive_folder().join("liblens_c.a");
+        let told = done(Command::new("nm").arg("--undefined-only").arg(archive));
+        let called: BTreeSet<&str> =
+            told.lines().filter_map(|line| line.trim().strip_prefix("U ")).collect();
+        assert_eq!(called, BTreeSet::from(["memcpy", "memset"]));
     }
 
     #[test]
