@@ -171,26 +171,35 @@ fn an_array_in_any_of_these_functions_is_found_and_named() {
     assert!(0 < of_types && 0 < of_traits, "{of_types} and {of_traits}");
 }
 
-#[test]
-fn an_array_in_a_type_or_a_constant_that_they_name_is_found_and_named() {
+/// Words before the first field's type of each type that show and total name, and others before the
+/// value of each constant, are told there.
+fn told_in_types_and_constants(in_type: (&str, What), in_constant: (&str, What)) {
     let engine = engine();
     let mut types = 0;
     let mut constants = 0;
     for item in engine.walk().items().filter(|item| !engine.program.is_function(*item)) {
         let placed @ Placed { item: named, file, .. } = engine.program.item(item);
-        let copy = if named.code.is_some() {
+        let (copy, what) = if named.code.is_some() {
             constants += 1;
-            engine.with(placed, "[0; 4][0] + ")
+            (engine.with(placed, in_constant.0), &in_constant.1)
         } else if let Some(field) = named.types.iter().position(|token| token.is(":")) {
             types += 1;
             let kind = named.types[field + 1].at;
-            engine.sources.edited(file, kind, "", "[u64; 4], other: ")
+            (engine.sources.edited(file, kind, "", in_type.0), &in_type.1)
         } else {
             continue;
         };
-        assert_eq!(engine.only_fault(&copy), (What::Array, engine.program.path(item)));
+        assert_eq!(engine.only_fault(&copy), (what.clone(), engine.program.path(item)));
     }
     assert!(0 < types && 0 < constants, "{types} and {constants}");
+}
+
+#[test]
+fn an_array_in_a_type_or_a_constant_that_they_name_is_found_and_named() {
+    told_in_types_and_constants(
+        ("[u64; 4], other: ", What::Array),
+        ("[0; 4][0] + ", What::Array),
+    );
 }
 
 /// A type, a constant and a function that is not run, in a body, and a type in a signature.
@@ -219,26 +228,11 @@ fn what_std_has_is_not_found_in_any_of_these_functions() {
 
 #[test]
 fn what_std_has_is_not_found_in_any_type_or_constant_that_they_name() {
-    let engine = engine();
-    let mut types = 0;
-    let mut constants = 0;
-    for item in engine.walk().items().filter(|item| !engine.program.is_function(*item)) {
-        let placed @ Placed { item: named, file, .. } = engine.program.item(item);
-        let (name, copy) = if named.code.is_some() {
-            constants += 1;
-            ("std::gone::ROW", engine.with(placed, "std::gone::ROW[0] + "))
-        } else if let Some(field) = named.types.iter().position(|token| token.is(":")) {
-            types += 1;
-            let kind = named.types[field + 1].at;
-            let words = "std::array::IntoIter<u64, 4096>, other: ";
-            ("std::array::IntoIter", engine.sources.edited(file, kind, "", words))
-        } else {
-            continue;
-        };
-        let lost = What::NotFound(name.into());
-        assert_eq!(engine.only_fault(&copy), (lost, engine.program.path(item)));
-    }
-    assert!(0 < types && 0 < constants, "{types} and {constants}");
+    let lost = |name: &str| What::NotFound(name.into());
+    told_in_types_and_constants(
+        ("std::array::IntoIter<u64, 4096>, other: ", lost("std::array::IntoIter")),
+        ("std::gone::ROW[0] + ", lost("std::gone::ROW")),
+    );
 }
 
 /// A call that the compiler's form does not have, of the table of shares: by its path it is followed,
